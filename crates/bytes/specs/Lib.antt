@@ -1,0 +1,4 @@
+pub mod BigEndian
+pub mod Conditions
+pub mod Output
+pub mod Ranges
