@@ -1,0 +1,4 @@
+pub mod Lines
+pub mod Layout
+pub mod Refusals
+pub mod Layers
