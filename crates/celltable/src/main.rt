@@ -1,5 +1,7 @@
 //! Reads a table from standard input and says what it sets up, or exactly what is wrong with it.
 
+#![tactic(auto)]
+
 use crate::table_text::TableText;
 use std::io;
 use std::io::Read;

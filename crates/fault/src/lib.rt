@@ -1,5 +1,7 @@
 //! Every fault of the two byte formats, and what it tells: its number, and of a table's fault the byte and the layer.
 
+#![tactic(auto)]
+
 ghost use Rattle.std.specs.Prelude.{◌≡◌};
 ghost use Rattle.fault.specs.Faults.{frame_told, header_told, line_told, record_number, write_number};
 ghost use Rattle.fault.specs.declared.HeaderFault.TheVariants.{Frame};

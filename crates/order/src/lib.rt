@@ -1,5 +1,7 @@
 //! One search for the least entry of a list, for every kind of entry that has a total order.
 
+#![tactic(auto)]
+
 ghost use Rattle.std.specs.Prelude.{◌≡◌, Bool};
 ghost use Rattle.std.specs.Cmp.{IsStrictWeakOrder};
 ghost use Rattle.order.specs.Least.{LeastAt};

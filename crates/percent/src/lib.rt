@@ -1,5 +1,7 @@
 //! A part of a whole, for people.
 
+#![tactic(auto)]
+
 ghost use Rattle.percent.specs.Rounding.{Nearest};
 
 /// The share of `part` in `whole` in tenths of a percent, to the nearest, a half rounded up; none of a whole of 0.

@@ -1,5 +1,7 @@
 //! The record of a slot: a type that keeps the rules of the format, its bytes and its faults.
 
+#![tactic(auto)]
+
 ghost use Rattle.std.specs.Prelude.{◌≡◌, ◌<◌, ◌≤◌, true};
 ghost use Rattle.record.specs.Pairs.{flows_fit, pair_fits};
 

@@ -4,8 +4,8 @@ ghost use Rattle.record.specs.Refusals.{Made};
 
 use crate::Record;
 use crate::taking::{Charge, Taking};
-use octets::range::one_to_sixteen;
 use fault::RecordFault;
+use octets::range::one_to_sixteen;
 
 /// Slots are numbered below this.
 const SLOTS: u32 = 1_000_000_000;

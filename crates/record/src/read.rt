@@ -4,8 +4,8 @@ ghost use Rattle.record.specs.Refusals.{RecordRead};
 
 use crate::Record;
 use crate::taking::{Charge, Taking};
-use octets::big_endian::{u16_of, u32_of};
 use fault::RecordFault;
+use octets::big_endian::{u16_of, u32_of};
 
 /// The flow that a byte names; 255 stands for no flow.
 fn flow_named(byte: u8) -> Option<u8>

@@ -3,9 +3,9 @@ ghost use Rattle.octets.specs.Output.{Written};
 ghost use Rattle.record.specs.Layout.{flow_byte, record_bytes};
 
 use crate::Record;
+use fault::WriteFault;
 use octets::big_endian::u32_bytes;
 use octets::output::next_place;
-use fault::WriteFault;
 
 /// The byte of a flow; 255 stands for no flow.
 fn flow_byte(flow: Option<u8>) -> u8

@@ -1,6 +1,8 @@
 //! What an error-free reference is: it names the flow whose turn it would be on a perfect channel. It sees flows enter
 //! and leave, and never whether a radio path is clean.
 
+#![tactic(auto)]
+
 ghost use Rattle.std.specs.Prelude.{◌≡◌};
 ghost use Rattle.reference.specs.Meaning.{Meaning, Lawful, told};
 

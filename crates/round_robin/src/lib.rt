@@ -1,5 +1,7 @@
 //! Round robin, an error-free reference: one flow after another, each as often in a round as its weight says.
 
+#![tactic(auto)]
+
 ghost use Rattle.std.specs.Prelude.{◌≡◌, ◌<◌, ◌≤◌, length, take};
 ghost use Rattle.reference.specs.Flows.{sum};
 ghost use Rattle.round_robin.specs.RoundRobin.{KeptBelow, weight_of};

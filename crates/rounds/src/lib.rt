@@ -1,6 +1,8 @@
 //! Many calls on a reference at once: every flow enters, and one turn after another. Each flow that is due has its share
 //! of the turns.
 
+#![tactic(auto)]
+
 ghost use Rattle.std.specs.Prelude.{◌≡◌, ℕ, ◌<◌, true, [], length};
 ghost use Rattle.std.specs.List.{AllByRecursion as All};
 ghost use Rattle.reference.specs.Calls.{marks_of, turns_then};

@@ -3,9 +3,9 @@ ghost use Rattle.table.specs.Lines.{lookahead_fits};
 ghost use Rattle.table.specs.Layers.{FrameChecked, HeaderRead};
 
 use crate::line::Kind;
+use fault::{FrameFault, HeaderFault};
 use octets::big_endian::u16_of;
 use octets::range::one_to_sixteen;
-use fault::{FrameFault, HeaderFault};
 
 /// What stands in a table between its version and its lines.
 #[derive(Clone, Copy)]

@@ -1,5 +1,7 @@
 //! The table that sets a cell up: a type that keeps the rules of the format, its bytes and its faults.
 
+#![tactic(auto)]
+
 ghost use Rattle.std.specs.Prelude.{◌≡◌, ◌-◌, ◌≤◌, true, length, take, drop, replicate};
 ghost use Rattle.table.specs.Lines.{lookahead_fits, lines_fit, no_line};
 

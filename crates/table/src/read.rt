@@ -9,8 +9,8 @@ ghost use Rattle.table.specs.Refusals.{TableRead};
 use crate::Table;
 use crate::header::read_header;
 use crate::line::{Kind, Line};
-use octets::range::one_to_sixteen;
 use fault::LineFault;
+use octets::range::one_to_sixteen;
 
 /// Whether a reference of this kind has such a delay weight.
 fn delay_weight_fits(kind: Kind, delay_weight: u8) -> bool

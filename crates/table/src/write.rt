@@ -7,9 +7,9 @@ ghost use Rattle.table.specs.Layout.{table_bytes, line_bytes};
 
 use crate::Table;
 use crate::line::Line;
+use fault::WriteFault;
 use octets::big_endian::u16_bytes;
 use octets::output::next_place;
-use fault::WriteFault;
 
 /// Writes lines at the front of `out`.
 fn put_lines(lines: &[Line], out: &mut [u8])

@@ -1,5 +1,7 @@
 //! A table's own reference: round robin or tags, as the table asks.
 
+#![tactic(auto)]
+
 use round_robin::RoundRobin;
 use tags::Tags;
 

@@ -1,6 +1,8 @@
 //! Tags, one of the two references: of the due flows that are not too far ahead of their share, a turn marks the one
 //! that would finish first.
 
+#![tactic(auto)]
+
 ghost use Rattle.std.specs.Prelude.{◌≡◌, ◌≤◌, length, take};
 ghost use Rattle.reference.specs.Flows.{sum};
 ghost use Rattle.tag_rule.specs.Tags.{KeptBelow, advance, weight_of};

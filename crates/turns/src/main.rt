@@ -1,6 +1,8 @@
 //! Reads a table from standard input, has every flow due throughout, takes the turns of two rounds on the table's own
 //! reference, and says which flows they marked and what each flow's share was.
 
+#![tactic(auto)]
+
 use crate::rounds_text::RoundsText;
 use rounds::two_rounds;
 use std::io;
