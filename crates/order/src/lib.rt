@@ -24,14 +24,14 @@ pub trait TotalOrder {
 
 /// Whether an entry takes over from the least so far; on a tie it does not.
 fn takes_over<T: TotalOrder>(entry: &T, least: &T) -> bool
-    ensures { result ≡ before entry.now least.now }
+    ensures { result ≡ T.before entry.now least.now }
 {
     entry.precedes(least)
 }
 
 /// The place of the least entry, the lowest of those that tie; none in an empty list.
 pub fn least<T: TotalOrder>(entries: &[T]) -> Option<usize>
-    ensures { LeastAt before entries.now result }
+    ensures { LeastAt T.before entries.now result }
 {
     if entries.is_empty() {
         return None;

@@ -1,5 +1,5 @@
 -- What a turn marks.
-use Rattle.std.proofs.Common.{◌≡◌, ℕ, true, false, Some, None, Option, refl, arith}
+use Rattle.std.proofs.Common.{◌≡◌, ℕ, true, false, Some, None, Option, refl}
 use Rattle.std.proofs.lemmas.Bool.{both_ways}
 use Rattle.reference.specs.Meaning.{Meaning}
 
