@@ -7,6 +7,6 @@ pub returns : goal.returns
 returns c =
     record {
       exact = c.decoded.ensures;
-      undoes-writing =
+      undoes_writing =
           λ s e. record_read_back s c.decoded.result (subst (λ b. RecordRead b c.decoded.result) (sym e) c.decoded.ensures);
     }

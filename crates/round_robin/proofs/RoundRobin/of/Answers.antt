@@ -6,14 +6,14 @@ use Rattle.round_robin.proofs.InTurn.{marks_in_turn}
 use Rattle.round_robin.specs.Held.{start_kept, start_summed}
 use Rattle.round_robin.proofs.RoundRobin.of.Goals as goal
 
-pub invariant-of-result : goal.invariant-of-result
-invariant-of-result c =
+pub invariant_of-result : goal.invariant_of-result
+invariant_of-result c =
     let t = c.args.table.now in
-    let qs = c.fresh-quotas.result in
-    let count = c.flow-count.ensures in
+    let qs = c.fresh_quotas.result in
+    let count = c.flow_count.ensures in
     let lines = c.lines.ensures in
     let long = flow_lines_length t in
-    let made = c.fresh-quotas.ensures in
+    let made = c.fresh_quotas.ensures in
     let e : take t.flow_count qs ≡ map fresh (flow_lines t) = cc in
     let total = start_summed t qs e in
     (search rules, (search rules, (search rules, (search rules, (rw count (start_kept t qs e), (cc, tt))))))
@@ -21,9 +21,9 @@ invariant-of-result c =
 pub returns : goal.returns
 returns c =
     let t = c.args.table.now in
-    let count = c.flow-count.ensures in
+    let count = c.flow_count.ensures in
     let lines = c.lines.ensures in
     let long = flow_lines_length t in
-    let made = c.fresh-quotas.ensures in
-    let e : take c.flow-count.result c.fresh-quotas.result ≡ map fresh (flow_lines t) = cc in
+    let made = c.fresh_quotas.ensures in
+    let e : take c.flow_count.result c.fresh_quotas.result ≡ map fresh (flow_lines t) = cc in
     record { starts = ap (pointing_at 0) e; in-turn = marks_in_turn }

@@ -2,8 +2,8 @@ use Rattle.std.proofs.Common.{arith, rules}
 use Rattle.round_robin.specs.Held.{set_kept, set_summed, switch_inside, switch_outside}
 use Rattle.round_robin.proofs.RoundRobin.switch.Goals as goal
 
-pub invariant-of-self : goal.invariant-of-self
-invariant-of-self c =
+pub invariant_of-self : goal.invariant_of-self
+invariant_of-self c =
     let r = c.args.self.now in
     let f = c.args.flow in
     let k = r.kept f (omega arith) in

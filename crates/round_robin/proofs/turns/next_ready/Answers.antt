@@ -16,5 +16,5 @@ returns-in-None c =
     let rest = take_rest c.args.quotas.now c.args.pointer in
     let upward = c.in-None.ensures ∙ ap (first ready c.args.pointer) rest in
     let ring = ap (λ o. or_else o (first ready 0 (take c.args.pointer c.args.quotas.now))) upward in
-    let below = c.first-ready-in-None.ensures in
+    let below = c.first_ready-in-None.ensures in
     cc

@@ -19,8 +19,8 @@ pub returns-after-loop-quota : goal.returns-after-loop-quota
 returns-after-loop-quota c =
     let qs = c.args.quotas.now in
     let i = c.loop-quota.quota-index in
-    let d : some is_due c.args.quotas.now ≡ true = sym c.if-some-due.ensures in
-    let n : some ready c.args.quotas.now ≡ false = sym c.if-not-some-ready.ensures in
+    let d : some is_due c.args.quotas.now ≡ true = sym c.if-some_due.ensures in
+    let n : some ready c.args.quotas.now ≡ false = sym c.if-not-some_ready.ensures in
     let anew : map unused c.args.quotas.now ≡ renewed c.args.quotas.now = rw (d, n) in
     let done = c.loop-quota.invariant in
     let none = drop_all i qs (omega arith) in

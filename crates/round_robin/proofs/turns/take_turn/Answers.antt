@@ -3,8 +3,8 @@ use Rattle.round_robin.specs.RoundRobin.{pointing_at}
 use Rattle.round_robin.specs.Held.{found_below, found_used}
 use Rattle.round_robin.proofs.turns.take_turn.Goals as goal
 
-pub overflow-add-quotas : goal.overflow-add-quotas
-overflow-add-quotas c =
+pub overflow_add-quotas : goal.overflow_add-quotas
+overflow_add-quotas c =
     let h = pointing_at c.args.pointer c.args.quotas.now in
     omega (arith, found_used h _ _ c.requires c.renew.ensures c.in-Some.ensures)
 

@@ -4,7 +4,7 @@ use Rattle.rounds.proofs.fewest.fewest_marks.Goals as goal
 
 pub returns : goal.returns
 returns c =
-    let owed = c.saturating-sub-owed.result in
+    let owed = c.saturating_sub-owed.result in
     let t = c.from-total.result in
     let positive : 0 < c.from-total.result = omega (arith, c.from-total.ensures, c.if-total-eq0.false) in
     let product : c.from.result * c.from-2.result ≡ c.args.turns * c.args.weight
@@ -12,7 +12,7 @@ returns c =
       omega (
         arith,
         product,
-        c.saturating-sub-owed.ensures,
+        c.saturating_sub-owed.ensures,
         c.from-3.ensures,
         rounded_covers owed t positive,
         ap (λ n. (owed + t - 1) / t * n) c.from-total.ensures,
@@ -21,7 +21,7 @@ returns c =
           omega (
             arith,
             product,
-            c.saturating-sub-owed.ensures,
+            c.saturating_sub-owed.ensures,
             c.from-3.ensures,
             fewer_falls_short owed t positive fewer l,
             ap (λ n. fewer * n) c.from-total.ensures,

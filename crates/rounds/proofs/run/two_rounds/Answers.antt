@@ -4,13 +4,13 @@ use Rattle.rounds.proofs.run.two_rounds.Goals as goal
 
 pub returns : goal.returns
 returns g c =
-    let n : length c.deref-mut.result.now ≡ 2 * c.total-weight.result
-    = omega (arith, c.deref-mut.ensures.len, c.in-ok-marks.ensures.made) in
-    two_rounds_made g.R.Reference.meaning (g.R.Reference.held c.args.reference.now) (g.R.Reference.held c.enter-all.new.reference)
-    (g.R.Reference.held c.take-turns.new.reference)
-    (length c.deref-mut.result.now) c.in-ok-marks.marks.len c.take-turns.new.marks
-    (drop (length c.take-turns.new.marks) c.in-ok-marks.marks.items)
-    c.enter-all.ensures.after c.enter-all.ensures.due c.enter-all.ensures.numbers
-    (omega (arith, n, c.total-weight.ensures))
-    (omega (arith, c.deref-mut.ensures.len))
-    c.take-turns.ensures.marks c.take-turns.ensures.after c.take-turns.ensures.shares
+    let n : length c.deref_mut.result.now ≡ 2 * c.total_weight.result
+    = omega (arith, c.deref_mut.ensures.len, c.in_ok-marks.ensures.made) in
+    two_rounds_made g.R.Reference.meaning (g.R.Reference.held c.args.reference.now) (g.R.Reference.held c.enter_all.new.reference)
+    (g.R.Reference.held c.take_turns.new.reference)
+    (length c.deref_mut.result.now) c.in_ok-marks.marks.len c.take_turns.new.marks
+    (drop (length c.take_turns.new.marks) c.in_ok-marks.marks.items)
+    c.enter_all.ensures.after c.enter_all.ensures.due c.enter_all.ensures.numbers
+    (omega (arith, n, c.total_weight.ensures))
+    (omega (arith, c.deref_mut.ensures.len))
+    c.take_turns.ensures.marks c.take_turns.ensures.after c.take_turns.ensures.shares

@@ -7,6 +7,6 @@ pub returns : goal.returns
 returns c =
     record {
       exact = c.checked.ensures;
-      undoes-writing =
+      undoes_writing =
           λ t e. table_read_back t c.checked.result (subst (λ b. TableRead b c.checked.result) (sym e) c.checked.ensures);
     }

@@ -6,6 +6,6 @@ use Rattle.table.proofs.Table.total_weight.Goals as goal
 
 pub returns : goal.returns
 returns c =
-    let sum : c.sum-weights.result ≡ weights_sum (flow_lines c.args.self.now)
-    = c.sum-weights.ensures ∙ ap weights_sum c.lines.ensures in
+    let sum : c.sum_weights.result ≡ weights_sum (flow_lines c.args.self.now)
+    = c.sum_weights.ensures ∙ ap weights_sum c.lines.ensures in
     record { exact = sum; positive = omega (arith, sum, total_positive c.args.self.now) }

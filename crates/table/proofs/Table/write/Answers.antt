@@ -5,7 +5,7 @@ use Rattle.table.proofs.Table.write.Goals as goal
 
 pub returns : goal.returns
 returns c =
-    let placed = c.in-ok-next.ensures in
+    let placed = c.in_ok-next.ensures in
     let size = c.size.ensures in
     tail_written c.args.out.now c.put.new.out _ (table_bytes c.args.self.now) c.args.at
-    c.in-ok-next.next (omega arith) (omega arith) (cc) (cc)
+    c.in_ok-next.next (omega arith) (omega arith) (cc) (cc)

@@ -12,5 +12,5 @@ returns c =
 
 pub loop-flow-preserved : goal.loop-flow-preserved
 loop-flow-preserved c =
-    put_more c.args.lines.now c.loop-flow.out c.args.out.now c.copy-from-slice.new.self
-    c.loop-flow.flow c.loop-flow-test.true (omega arith) c.loop-flow.invariant c.copy-from-slice.ensures.after
+    put_more c.args.lines.now c.loop-flow.out c.args.out.now c.copy_from_slice.new.self
+    c.loop-flow.flow c.loop-flow-test.true (omega arith) c.loop-flow.invariant c.copy_from_slice.ensures.after

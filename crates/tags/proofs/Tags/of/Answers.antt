@@ -7,12 +7,12 @@ use Rattle.tags.proofs.Fresh.{fresh_kept, fresh_on_time, fresh_summed, fresh_hel
 use Rattle.tag_rule.proofs.SameMarks.{start_follows}
 use Rattle.tags.proofs.Tags.of.Goals as goal
 
-pub invariant-of-result : goal.invariant-of-result
-invariant-of-result c =
+pub invariant_of-result : goal.invariant_of-result
+invariant_of-result c =
     let t = c.args.table.now in
-    let n = c.flow-count.ensures in
+    let n = c.flow_count.ensures in
     let p = c.lookahead.ensures in
-    let made = c.fresh-stamps.ensures in
+    let made = c.fresh_stamps.ensures in
     let kind = sym c.in-Tags.ensures in
     let range = flows_in_range c.args.table.now in
     let long = flow_lines_length c.args.table.now in (
@@ -27,7 +27,7 @@ invariant-of-result c =
               fresh_kept t _ _ _ _ n p c.lines.ensures made kind,
               (
                 fresh_on_time t _ _ _ _ n p c.lines.ensures made,
-                (c.total-weight.ensures.exact ∙ fresh_summed t _ _ _ _ n p c.lines.ensures made, tt),
+                (c.total_weight.ensures.exact ∙ fresh_summed t _ _ _ _ n p c.lines.ensures made, tt),
               ),
             ),
           ),
@@ -39,7 +39,7 @@ pub returns-in-Tags : goal.returns-in-Tags
 returns-in-Tags c =
     let t = c.args.table.now in
     let holds
-    = fresh_held t _ _ _ _ c.flow-count.ensures c.lookahead.ensures c.lines.ensures c.fresh-stamps.ensures in (
+    = fresh_held t _ _ _ _ c.flow_count.ensures c.lookahead.ensures c.lines.ensures c.fresh_stamps.ensures in (
       sym c.in-Tags.ensures,
       holds,
       subst (Follows (table_clock t)) (sym holds) (start_follows (lookahead_of t) (flow_lines t)),

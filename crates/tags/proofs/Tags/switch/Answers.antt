@@ -3,8 +3,8 @@ use Rattle.tag_rule.specs.Tags.{switching}
 use Rattle.tags.specs.Stored.{stored, stored_holds, switched, switched_sized, switched_settled, switched_outside}
 use Rattle.tags.proofs.Tags.switch.Goals as goal
 
-pub invariant-of-self : goal.invariant-of-self
-invariant-of-self c =
+pub invariant_of-self : goal.invariant_of-self
+invariant_of-self c =
     let t = c.args.self.now in
     let b = c.args.due in
     let f = c.args.flow in

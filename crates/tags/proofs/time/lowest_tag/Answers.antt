@@ -10,7 +10,7 @@ loop-stamp-preserved c =
     let i = c.loop-stamp.stamp-index in
     elim c.if-stamp.branch [
       | then-stamp w ↦
-          ap (λ o. join o (lowest (drop (i + 1) ss))) (w.low-is ∙ ap Some w.lower-of.ensures)
+          ap (λ o. join o (lowest (drop (i + 1) ss))) (w.low-is ∙ ap Some w.lower_of.ensures)
           ∙ (low_hit ss c.loop-stamp.low i c.loop-stamp-test.true w.if-stamp.true ∙ c.loop-stamp.invariant)
       | else-stamp w ↦
           ap (λ o. join o (lowest (drop (i + 1) ss))) w.low-is

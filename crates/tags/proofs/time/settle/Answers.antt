@@ -9,9 +9,9 @@ pub loop-stamp-preserved : goal.loop-stamp-preserved
 loop-stamp-preserved c =
     let ss = c.loop-stamp.stamps in
     let i = c.loop-stamp.stamp-index in
-    let same = c.seen-from.ensures in
+    let same = c.seen_from.ensures in
     let more
-    = map_over_more (later c.advance-by-time.result) c.args.stamps.now ss i (stamp_at ss i) (omega arith)
+    = map_over_more (later c.advance_by-time.result) c.args.stamps.now ss i (stamp_at ss i) (omega arith)
     c.loop-stamp.invariant
     (get_or_default ss i no_stamp _ (omega arith)) in
     cc
@@ -20,9 +20,9 @@ pub returns : goal.returns
 returns c =
     let ss = c.args.stamps.now in
     let i = c.loop-stamp.stamp-index in
-    let time = c.advance-by-time.ensures in
+    let time = c.advance_by-time.ensures in
     let done = c.loop-stamp.invariant in
     let none = drop_all i ss (omega arith) in
     let all = take_all i ss (omega arith) in
-    let end = append-nil (map (later c.advance-by-time.result) ss) in
+    let end = append-nil (map (later c.advance_by-time.result) ss) in
     cc

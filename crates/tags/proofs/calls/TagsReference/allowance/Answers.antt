@@ -7,15 +7,15 @@ use Rattle.tags.specs.View.{tags_held}
 use Rattle.tags.specs.Stored.{held_length, stamp_found, others_weight}
 use Rattle.tags.proofs.calls.TagsReference.allowance.Goals as goal
 
-pub overflow-sub-rest : goal.overflow-sub-rest
-overflow-sub-rest c =
+pub overflow_sub-rest : goal.overflow_sub-rest
+overflow_sub-rest c =
     omega
-    (arith, c.from.ensures, c.from-weight.ensures, (others_weight c.args.self.now c.args.flow c.in-ok-stamp.stamp c.in-ok-stamp.ensures).0)
+    (arith, c.from.ensures, c.from-weight.ensures, (others_weight c.args.self.now c.args.flow c.in_ok-stamp.stamp c.in_ok-stamp.ensures).0)
 
 pub returns : goal.returns
 returns c =
-    let found = stamp_found c.args.self.now c.args.flow c.in-ok-stamp.stamp c.in-ok-stamp.ensures in
-    let rest = others_weight c.args.self.now c.args.flow c.in-ok-stamp.stamp c.in-ok-stamp.ensures in
+    let found = stamp_found c.args.self.now c.args.flow c.in_ok-stamp.stamp c.in_ok-stamp.ensures in
+    let rest = others_weight c.args.self.now c.args.flow c.in_ok-stamp.stamp c.in_ok-stamp.ensures in
     let inside : ltb c.args.flow (length (tags_held c.args.self.now).stamps) ≡ true = lt-ltb _ _ found.0 in
     let w : c.from-weight.result ≡ (stamp_at (tags_held c.args.self.now).stamps c.args.flow).weight
     = c.from-weight.ensures ∙ ap weight_of found.1 in

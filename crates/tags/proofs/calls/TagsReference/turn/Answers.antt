@@ -2,23 +2,23 @@ use Rattle.reference.specs.Calls.Call.{turning}
 use Rattle.tags.specs.Stored.{held_sound, stored, stored_holds}
 use Rattle.tags.proofs.calls.TagsReference.turn.Goals as goal
 
-pub take-turn-mark-requires : goal.take-turn-mark-requires
-take-turn-mark-requires c = held_sound c.args.self.now
+pub take_turn-mark-requires : goal.take_turn-mark-requires
+take_turn-mark-requires c = held_sound c.args.self.now
 
-pub invariant-of-self : goal.invariant-of-self
-invariant-of-self c =
+pub invariant_of-self : goal.invariant_of-self
+invariant_of-self c =
     let t = c.args.self.now in
     let r
-    = stored c.args.self.now turning c.args.self.now.stamps c.take-turn-mark.new.stamps t.sized
-    c.take-turn-mark.ensures.after in
+    = stored c.args.self.now turning c.args.self.now.stamps c.take_turn-mark.new.stamps t.sized
+    c.take_turn-mark.ensures.after in
     (r.sized, (t.some, (t.few, (t.looks, (r.kept, (r.on_time, (r.summed, tt)))))))
 
 pub returns : goal.returns
 returns c =
     let t = c.args.self.now in
     record {
-      mark = c.take-turn-mark.ensures.mark;
+      mark = c.take_turn-mark.ensures.mark;
       after =
-          stored_holds c.args.self.now turning c.args.self.now.stamps c.take-turn-mark.new.stamps t.sized
-          c.take-turn-mark.ensures.after;
+          stored_holds c.args.self.now turning c.args.self.now.stamps c.take_turn-mark.new.stamps t.sized
+          c.take_turn-mark.ensures.after;
     }
