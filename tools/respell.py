@@ -17,6 +17,8 @@ import sys
 CRATES = {"bytes": "octets"}
 WORD = r"[^\s(){}\[\].;,@\"«»]+"
 DECLARED = re.compile(r"(?m)^\s*(?:(?:pub|abbrev|unfoldable|data|record|mutual|where)\s+)*(" + WORD + r")\s*(?:[({][^:(){}]*:[^(){}]*[)}]\s*)*:(?=\s)(.*)$")
+# a record or a data type, and a name that an import gives
+OTHER = re.compile(r"(?m)^\s*(?:pub\s+)?(?:record|data)\s+(" + WORD + r")(?=\s)|\bas (" + WORD + r")(?=[,}])")
 TOKEN = re.compile(r"(?<![^\s(){}\[\].;,@\"«»])" + WORD)
 RUST = re.compile(r'//[^\n]*|"(?:\\.|[^"\\])*"', re.S)
 GOAL = re.compile(r"\s*(?:\w+\.)?(?:goal|given|need)\.")
@@ -53,6 +55,10 @@ def declared(paths):
         for m in DECLARED.finditer(read(path)):
             if "-" in m.group(1) and m.group(1)[0].isalnum() and not GOAL.match(m.group(2)):
                 names.add(m.group(1))
+        for m in OTHER.finditer(read(path)):
+            name = m.group(1) or m.group(2)
+            if "-" in name and not path.endswith(("/Answers.antt", "/Invariants.antt")):
+                names.add(name)
     return names
 
 
@@ -89,6 +95,8 @@ def turn_rust(text, table):
 
 def rename_crates():
     for old, new in CRATES.items():
+        if not os.path.isdir(f"crates/{old}"):
+            continue
         subprocess.run(["git", "mv", f"crates/{old}", f"crates/{new}"], check=True)
         for path in listed((".rt", ".antt", ".edit")):
             text = read(path)
@@ -102,7 +110,7 @@ def rename_crates():
 
 def main():
     antt, rust, edits = listed(".antt"), listed(".rt"), listed(".edit")
-    table = {name: new_name(name) for name in declared(antt)}
+    table = {name: new_name(name) for name in declared(antt + rust)}
     used = {}
     for path in antt + rust:
         for word in TOKEN.findall(read(path)):

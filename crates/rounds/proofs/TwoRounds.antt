@@ -4,7 +4,7 @@ use Rattle.std.proofs.lemmas.List.{take_at}
 use Rattle.reference.specs.Meaning.{Meaning, SameNumbers}
 use Rattle.reference.specs.Calls.{marks_of, turns_then}
 use Rattle.reference.specs.Shares.{times_marked, HasShare}
-use Rattle.rounds.specs.Rounds.{entered_below, after_turns, Two-rounds}
+use Rattle.rounds.specs.Rounds.{entered_below, after_turns, TwoRounds}
 
 module _ (M : Meaning) where
   marks_length : (h : M.Held) (n : ℕ) → length (marks_of M h (turns_then n [])) ≡ n
@@ -30,11 +30,11 @@ module _ (M : Meaning) where
       → marks ≡ marks_of M e (turns_then n [])
       → k ≡ after_turns M e n
       → ((f : ℕ) → M.due e f ≡ true → HasShare M e f marks)
-      → Two-rounds M h k (take len (marks ++ rest))
+      → TwoRounds M h k (take len (marks ++ rest))
   two_rounds_made h e k n len marks rest entered due same turns long marked after shares =
       let all : take len (marks ++ rest) ≡ marks
       = take_at marks rest len (ap length marked ∙ (marks_length e n ∙ sym long)) in
-      subst (Two-rounds M h k) (sym all)
+      subst (TwoRounds M h k) (sym all)
       (record {
         turns_mark =
             marked ∙ (ap (λ z. marks_of M z (turns_then n [])) entered

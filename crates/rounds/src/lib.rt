@@ -20,9 +20,9 @@ pub use run::two_rounds;
 
 /// Every flow enters, flow 0 first: after it every flow is due.
 pub fn enter_all<R: Reference>(reference: &mut R)
-    ensures after { held reference.new ≡ entered_below meaning (held reference.old) (meaning.flows (held reference.old)) }
-    ensures due { (f : ℕ) → f < meaning.flows (held reference.old) → meaning.due (held reference.new) f ≡ true }
-    ensures numbers { SameNumbers meaning (held reference.old) (held reference.new) }
+    ensures after { R.held reference.new ≡ entered_below R.meaning (R.held reference.old) (R.meaning.flows (R.held reference.old)) }
+    ensures due { (f : ℕ) → f < R.meaning.flows (R.held reference.old) → R.meaning.due (R.held reference.new) f ≡ true }
+    ensures numbers { SameNumbers R.meaning (R.held reference.old) (R.held reference.new) }
 {
     for flow in 0..reference.flow_count() {
         reference.enter(flow);
@@ -32,11 +32,11 @@ pub fn enter_all<R: Reference>(reference: &mut R)
 /// Takes a turn for each place of `marks`; the place then holds what the turn marked. Each flow that was due has its
 /// share of the marks; and it would have its share of the turns in any calls, in any order, by which it does not leave.
 pub fn take_turns<R: Reference>(reference: &mut R, marks: &mut [Option<u8>])
-    ensures marks { marks.new ≡ marks_of meaning (held reference.old) (turns_then (length marks.old) []) }
-    ensures after { held reference.new ≡ after_turns meaning (held reference.old) (length marks.old) }
-    ensures due { All (MarkIsDue meaning (held reference.old)) marks.new }
-    ensures shares { (f : ℕ) → meaning.due (held reference.old) f ≡ true → HasShare meaning (held reference.old) f marks.new }
-    ensures always { GivesShares meaning (held reference.old) }
+    ensures marks { marks.new ≡ marks_of R.meaning (R.held reference.old) (turns_then (length marks.old) []) }
+    ensures after { R.held reference.new ≡ after_turns R.meaning (R.held reference.old) (length marks.old) }
+    ensures due { All (MarkIsDue R.meaning (R.held reference.old)) marks.new }
+    ensures shares { (f : ℕ) → R.meaning.due (R.held reference.old) f ≡ true → HasShare R.meaning (R.held reference.old) f marks.new }
+    ensures always { GivesShares R.meaning (R.held reference.old) }
 {
     for place in marks.iter_mut() {
         *place = reference.turn();

@@ -1,5 +1,5 @@
 ghost use Rattle.std.specs.Prelude.{◌≡◌, MatchResult};
-ghost use Rattle.rounds.specs.Rounds.{Two-rounds};
+ghost use Rattle.rounds.specs.Rounds.{TwoRounds};
 
 use crate::{enter_all, take_turns};
 use reference::Reference;
@@ -11,7 +11,7 @@ pub fn two_rounds<R: Reference>(
     heap: Global,
     reference: &mut R,
 ) -> Result<Vec<Option<u8>>, AllocError>
-    ensures { MatchResult result (λ marks. Two-rounds meaning (held reference.old) (held reference.new) marks.items) (λ _. held reference.new ≡ held reference.old) }
+    ensures { MatchResult result (λ marks. TwoRounds R.meaning (R.held reference.old) (R.held reference.new) marks.items) (λ _. R.held reference.new ≡ R.held reference.old) }
 {
     let turns = 2 * reference.total_weight() as usize;
     let mut marks = vec![in heap; None; turns]?;

@@ -3,9 +3,9 @@ use Rattle.std.specs.Prelude.{◌≡◌, ℕ, List, [], ◌∷◌, Some, None, O
 use Rattle.reference.specs.Calls.{Call, marks_of, turns_then}
 use Rattle.reference.specs.Calls.Call.{turning, entering, leaving}
 use Rattle.round_robin.specs.RoundRobin.{round_robin}
-use Rattle.round_robin.specs.RoundRobin.{start as robin-start}
+use Rattle.round_robin.specs.RoundRobin.{start as robin_start}
 use Rattle.table.specs.declared.line.Line.{Line}
-use Rattle.tag_rule.specs.Rule.{start as tags-start, rule_marks}
+use Rattle.tag_rule.specs.Rule.{start as tags_start, rule_marks}
 
 -- a flow by its weight and its delay weight
 abbrev pub flow : ℕ → ℕ → Line
@@ -13,10 +13,10 @@ flow r d = record { weight = r; delay_weight = d; lag_limit = 0; lead_limit = 0 
 
 -- the marks of tags over these flows, and of a round robin
 abbrev pub tags_marks : ℕ → List Line → List Call → List (Option ℕ)
-tags_marks lookahead flows calls = rule_marks (tags-start lookahead flows) calls
+tags_marks lookahead flows calls = rule_marks (tags_start lookahead flows) calls
 
 abbrev pub robin_marks : List Line → List Call → List (Option ℕ)
-robin_marks flows calls = marks_of round_robin (robin-start flows) calls
+robin_marks flows calls = marks_of round_robin (robin_start flows) calls
 
 pub record WorkedMarks : Type 0 where
   -- tags, lookahead 0, weights and delay weights 2 and 1, both flows due throughout

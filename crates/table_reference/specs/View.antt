@@ -8,7 +8,7 @@ use Rattle.table.specs.Layout.{kind_of, flow_lines}
 use Rattle.table.specs.declared.line.Kind.TheVariants.{RoundRobin as OfRoundRobin}
 use Rattle.table.specs.declared.Table.{Table}
 use Rattle.tag_rule.specs.Tags.{Tagged, tags}
-use Rattle.tags.specs.View.{tags_held, Made as Made-tags}
+use Rattle.tags.specs.View.{tags_held, Made as MadeTags}
 use Rattle.table_reference.specs.Either.{either}
 use Rattle.table_reference.specs.declared.TableReference.{TableReference}
 use Rattle.table_reference.specs.declared.TableReference.TheVariants.{RoundRobin, Tags}
@@ -23,4 +23,4 @@ own_held (Tags t) = inr (tags_held t)
 -- of the kind that the table asks for, and at its start; tags follow their rule
 abbrev pub Made : Table → TableReference → Type 0
 Made t (RoundRobin r) = (kind_of t ≡ OfRoundRobin) × (robin_held r ≡ start (flow_lines t))
-Made t (Tags r) = Made-tags t (Some r)
+Made t (Tags r) = MadeTags t (Some r)

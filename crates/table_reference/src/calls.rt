@@ -4,8 +4,8 @@ ghost use Rattle.round_robin.specs.Laws.{robin_lawful};
 ghost use Rattle.tag_rule.specs.Tags as SpecsTags;
 ghost use Rattle.tag_rule.proofs.Laws.{tags_lawful};
 ghost use Rattle.table_reference.specs.EitherLaws.{either_lawful};
-ghost use Rattle.round_robin.specs.Held.{held_sound as robin-sound};
-ghost use Rattle.tags.specs.Stored.{held_sound as tags-sound};
+ghost use Rattle.round_robin.specs.Held.{held_sound as robin_sound};
+ghost use Rattle.tags.specs.Stored.{held_sound as tags_sound};
 ghost use Rattle.table_reference.specs.declared.TableReference.TheVariants.{RoundRobin, Tags};
 
 use crate::TableReference;
@@ -18,7 +18,7 @@ impl Reference for TableReference {
 
     ghost lawful = { either_lawful round_robin SpecsTags.tags robin_lawful tags_lawful };
 
-    ghost sound = { elim [ RoundRobin r ↦ robin-sound r | Tags t ↦ tags-sound t ] };
+    ghost sound = { elim [ RoundRobin r ↦ robin_sound r | Tags t ↦ tags_sound t ] };
 
     fn flow_count(&self) -> u8 {
         match self {

@@ -16,7 +16,14 @@ invariant_of-result c =
     let made = c.fresh_quotas.ensures in
     let e : take t.flow_count qs ≡ map fresh (flow_lines t) = cc in
     let total = start_summed t qs e in
-    (search rules, (search rules, (search rules, (search rules, (rw count (start_kept t qs e), (cc, tt))))))
+    record {
+      sized = search rules;
+      some = search rules;
+      few = search rules;
+      points = search rules;
+      kept = rw count (start_kept t qs e);
+      summed = cc;
+    }
 
 pub returns : goal.returns
 returns c =
@@ -26,4 +33,4 @@ returns c =
     let long = flow_lines_length t in
     let made = c.fresh_quotas.ensures in
     let e : take c.flow_count.result c.fresh_quotas.result ≡ map fresh (flow_lines t) = cc in
-    record { starts = ap (pointing_at 0) e; in-turn = marks_in_turn }
+    record { starts = ap (pointing_at 0) e; in_turn = marks_in_turn }

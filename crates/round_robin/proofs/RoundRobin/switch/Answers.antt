@@ -9,7 +9,14 @@ invariant_of-self c =
     let k = r.kept f (omega arith) in
     let kept = set_kept r f (omega arith) in
     let summed = set_summed r f (omega arith) in
-    (search rules, (search rules, (search rules, (search rules, (kept _ (omega arith, omega arith, omega arith), (summed _ (omega arith), tt))))))
+    record {
+      sized = search rules;
+      some = search rules;
+      few = search rules;
+      points = search rules;
+      kept = kept _ (omega arith, omega arith, omega arith);
+      summed = summed _ (omega arith);
+    }
 
 pub returns-then-flow-self : goal.returns-then-flow-self
 returns-then-flow-self c =

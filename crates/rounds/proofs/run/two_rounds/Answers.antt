@@ -5,7 +5,7 @@ use Rattle.rounds.proofs.run.two_rounds.Goals as goal
 pub returns : goal.returns
 returns g c =
     let n : length c.deref_mut.result.now ≡ 2 * c.total_weight.result
-    = omega (arith, c.deref_mut.ensures.len, c.in_ok-marks.ensures.made) in
+    = omega (arith, c.deref_mut.ensures.len, c.in_ok-marks.ensures.len) in
     two_rounds_made g.R.Reference.meaning (g.R.Reference.held c.args.reference.now) (g.R.Reference.held c.enter_all.new.reference)
     (g.R.Reference.held c.take_turns.new.reference)
     (length c.deref_mut.result.now) c.in_ok-marks.marks.len c.take_turns.new.marks

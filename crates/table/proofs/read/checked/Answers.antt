@@ -27,7 +27,14 @@ invariant_of-result c =
     let spare = c.read_lines.ensures.spare in
     let ls = take h.flow_count c.read_lines.result in
     let fit = fit_from_none h.kind 6 ls (ap (wrong_byte h.kind 6) used ∙ none) in
-    (good.some, (good.few, (good.looks, (fit, (omega arith, (spare, tt))))))
+    record {
+      some = good.some;
+      few = good.few;
+      looks = good.looks;
+      fit = fit;
+      whole = omega arith;
+      spare = spare;
+    }
 
 pub returns : goal.returns
 returns c =
@@ -38,5 +45,5 @@ returns c =
     let used = c.read_lines.ensures.used in
     let ls = take h.flow_count c.read_lines.result in (
       lines_decide b h good None (ap (option_map (λ i. refused 5 i Line)) (rw (take_rest b 6) at none)),
-      bytes_as_read b h good ls (λ i. omega (arith, c.type-inv.bytes i)) (used ∙ take_rest b 6),
+      bytes_as_read b h good ls (λ i. omega (arith, c.type_inv.bytes i)) (used ∙ take_rest b 6),
     )

@@ -15,25 +15,16 @@ invariant_of-result c =
     let made = c.fresh_stamps.ensures in
     let kind = sym c.in-Tags.ensures in
     let range = flows_in_range c.args.table.now in
-    let long = flow_lines_length c.args.table.now in (
-      search rules,
-      (
-        omega (arith, n, long, range.0),
-        (
-          omega (arith, n, long, range.1),
-          (
-            omega (arith, p, lookahead_in_range t kind),
-            (
-              fresh_kept t _ _ _ _ n p c.lines.ensures made kind,
-              (
-                fresh_on_time t _ _ _ _ n p c.lines.ensures made,
-                (c.total_weight.ensures.exact ∙ fresh_summed t _ _ _ _ n p c.lines.ensures made, tt),
-              ),
-            ),
-          ),
-        ),
-      ),
-    )
+    let long = flow_lines_length c.args.table.now in
+    record {
+      sized = search rules;
+      some = omega (arith, n, long, range.0);
+      few = omega (arith, n, long, range.1);
+      looks = omega (arith, p, lookahead_in_range t kind);
+      kept = fresh_kept t _ _ _ _ n p c.lines.ensures made kind;
+      on_time = fresh_on_time t _ _ _ _ n p c.lines.ensures made;
+      summed = c.total_weight.ensures.exact ∙ fresh_summed t _ _ _ _ n p c.lines.ensures made;
+    }
 
 pub returns-in-Tags : goal.returns-in-Tags
 returns-in-Tags c =

@@ -11,7 +11,15 @@ invariant_of-self c =
     let r
     = stored c.args.self.now (switching c.args.due c.args.flow) (switched b t f) c.settle.new.stamps (switched_sized b t f)
     (c.settle.ensures ∙ switched_settled b t f c.if-flow-self.true) in
-    (r.sized, (t.some, (t.few, (t.looks, (r.kept, (r.on_time, (r.summed, tt)))))))
+    record {
+      sized = r.sized;
+      some = t.some;
+      few = t.few;
+      looks = t.looks;
+      kept = r.kept;
+      on_time = r.on_time;
+      summed = r.summed;
+    }
 
 pub returns-then-flow-self : goal.returns-then-flow-self
 returns-then-flow-self c =

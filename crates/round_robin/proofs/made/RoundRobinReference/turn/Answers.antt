@@ -9,7 +9,14 @@ pub invariant_of-self : goal.invariant_of-self
 invariant_of-self c =
     let r = c.args.self.now in
     let e = c.take_turn-mark.ensures.after in
-    (turn_sized r _ _ e, (r.some, (r.few, (turn_points r _ _ e, (turn_kept r _ _ e, (turn_summed r _ _ e, tt))))))
+    record {
+      sized = turn_sized r _ _ e;
+      some = r.some;
+      few = r.few;
+      points = turn_points r _ _ e;
+      kept = turn_kept r _ _ e;
+      summed = turn_summed r _ _ e;
+    }
 
 pub returns : goal.returns
 returns c =

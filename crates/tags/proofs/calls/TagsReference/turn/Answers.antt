@@ -11,7 +11,15 @@ invariant_of-self c =
     let r
     = stored c.args.self.now turning c.args.self.now.stamps c.take_turn-mark.new.stamps t.sized
     c.take_turn-mark.ensures.after in
-    (r.sized, (t.some, (t.few, (t.looks, (r.kept, (r.on_time, (r.summed, tt)))))))
+    record {
+      sized = r.sized;
+      some = t.some;
+      few = t.few;
+      looks = t.looks;
+      kept = r.kept;
+      on_time = r.on_time;
+      summed = r.summed;
+    }
 
 pub returns : goal.returns
 returns c =
