@@ -50,8 +50,8 @@ fn first_ready(quotas: &[Quota], lowest: usize) -> Option<u8>
 
 /// The first flow that is ready, looking upward from the pointer and around.
 fn next_ready(quotas: &[Quota], pointer: usize) -> Option<u8>
-    requires quotas_len_bound { length quotas.now ≤ 16 }
-    requires pointer_in_bounds { pointer < length quotas.now }
+    requires few { length quotas.now ≤ 16 }
+    requires points { pointer < length quotas.now }
     ensures { result ≡ around ready pointer quotas.now }
 {
     match first_ready(&quotas[pointer..], pointer) {

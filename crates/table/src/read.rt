@@ -62,8 +62,8 @@ fn check_lines(kind: Kind, flow_count: u8, bytes: &[u8]) -> Result<(), LineFault
 
 /// The lines of all flows.
 fn read_lines(flow_count: u8, bytes: &[u8]) -> [Line; 16]
-    requires flow_count_bound { flow_count ≤ 16 }
-    requires bytes_len { length bytes.now ≡ 4 * flow_count }
+    requires few { flow_count ≤ 16 }
+    requires whole { length bytes.now ≡ 4 * flow_count }
     ensures used { flat_map line_bytes (take flow_count result) ≡ bytes.now }
     ensures spare { drop flow_count result ≡ replicate (16 - flow_count) no_line }
 {

@@ -20,8 +20,8 @@ fn is_eligible(stamp: &Stamp, lookahead: u8) -> bool
 
 /// A flow's finish tag.
 fn finish_tag(stamp: &Stamp) -> u32
-    requires bound { 1 ≤ stamp.now.delay_weight }
-    requires tag_bound { stamp.now.tag ≤ 17 * 720720 }
+    requires delay_weight_positive { 1 ≤ stamp.now.delay_weight }
+    requires tag_in_range { stamp.now.tag ≤ 17 * 720720 }
     ensures { result ≡ finish_tag stamp.now }
 {
     stamp.tag + WHOLE / u32::from(stamp.delay_weight)
@@ -29,9 +29,9 @@ fn finish_tag(stamp: &Stamp) -> u32
 
 /// Lists the eligible flows in `out`, and says how many they are.
 fn list_eligible(stamps: &[Stamp], lookahead: u8, out: &mut [Entry; 16]) -> usize
-    requires stamps_len_bound { length stamps.now ≤ 16 }
-    requires lookahead_bound { lookahead ≤ 16 }
-    requires kept_below { KeptBelow lookahead stamps.now (length stamps.now) }
+    requires few { length stamps.now ≤ 16 }
+    requires looks { lookahead ≤ 16 }
+    requires kept { KeptBelow lookahead stamps.now (length stamps.now) }
     ensures few { result ≤ 16 }
     ensures list { take result out.new ≡ entries 0 lookahead 0 stamps.now }
 {
@@ -63,8 +63,8 @@ fn pick(stamps: &[Stamp], lookahead: u8) -> Option<u8>
 
 /// What a mark costs a flow.
 fn charge(stamp: &mut Stamp)
-    requires le_weight { 1 ≤ stamp.old.weight }
-    requires tag_bound { stamp.old.tag ≤ 16 * 720720 }
+    requires weight_positive { 1 ≤ stamp.old.weight }
+    requires tag_in_range { stamp.old.tag ≤ 16 * 720720 }
     ensures { stamp.new ≡ charged stamp.old }
 {
     stamp.tag += WHOLE / u32::from(stamp.weight);

@@ -9,7 +9,7 @@ fn reads_and_writes_back(rt: &impl Abort, bytes: &[u8]) -> Result<Table, Fail> {
     let next = table.write(&mut out, 3)?;
     assert!(rt; next < 80);
     assert_eq!(rt; &out[3..next], bytes);
-    assert_eq!(rt; &out[..3], &[9, 9, 9]);
+    assert_eq!(rt; &out[..3], [9, 9, 9].as_slice());
     assert_eq!(rt; out[next], 9);
     Ok(table)
 }
@@ -116,7 +116,7 @@ fn records_read_and_written_back(rt: HostRuntime) -> Result<(), Fail> {
         assert_eq!(rt; record.slot() as usize, slot);
         let mut out = [9; 14];
         assert_eq!(rt; record.write(&mut out, 1)?, 13);
-        assert_eq!(rt; &out[1..13], bytes);
+        assert_eq!(rt; &out[1..13], bytes.as_slice());
         assert!(rt; out[0] == 9 && out[13] == 9);
     }
     Ok(())

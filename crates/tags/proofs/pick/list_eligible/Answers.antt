@@ -12,7 +12,7 @@ loop-i-preserved c =
     let n = c.loop-i.n in
     let i = c.loop-i.i in
     let rest = entries 0 p (i + 1) (drop (i + 1) ss) in
-    let room : c.loop-i.n < length c.loop-i.out = omega (arith, c.loop-i.invariant.0, c.loop-i.invariant.1, c.requires.0) in
+    let room : c.loop-i.n < length c.loop-i.out = omega (arith, c.loop-i.invariant.0, c.loop-i.invariant.1, c.requires.few) in
     elim c.if-is_eligible.branch [
       | then-is_eligible w ↦ (
         omega (arith, w.n-is, c.loop-i.invariant.0),
@@ -34,7 +34,7 @@ loop-i-preserved c =
 pub returns : goal.returns
 returns c =
     record {
-      few = omega (arith, c.loop-i.invariant.0, c.loop-i.auto.i-end, c.requires.0);
+      few = omega (arith, c.loop-i.invariant.0, c.loop-i.auto.i-end, c.requires.few);
       list =
           sym (list_end c.args.lookahead c.args.stamps.now c.loop-i.out c.loop-i.n c.loop-i.i c.loop-i-test.false)
           ∙ c.loop-i.invariant.2;

@@ -24,4 +24,8 @@ returns-in-Some c =
 
 pub list_eligible-n-requires : goal.list_eligible-n-requires
 list_eligible-n-requires c =
-    (c.requires.few_flows, c.requires.looks, all_below c.args.lookahead c.args.stamps.now c.requires.kept)
+    record {
+      few = c.requires.few_flows;
+      looks = c.requires.looks;
+      kept = all_below c.args.lookahead c.args.stamps.now c.requires.kept;
+    }

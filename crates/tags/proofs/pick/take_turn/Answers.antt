@@ -6,7 +6,8 @@ pub bounds-stamps-f : goal.bounds-stamps-f
 bounds-stamps-f c = marked_below c.args.lookahead _ _ c.requires _ c.pick-mark.ensures c.in-Some.is
 
 pub charge-requires : goal.charge-requires
-charge-requires c = (
-  marked_weight c.args.lookahead _ _ c.requires _ c.pick-mark.ensures c.in-Some.is,
-  marked_tag c.args.lookahead _ _ c.requires _ c.pick-mark.ensures c.in-Some.is,
-)
+charge-requires c =
+    record {
+      weight_positive = marked_weight c.args.lookahead _ _ c.requires _ c.pick-mark.ensures c.in-Some.is;
+      tag_in_range = marked_tag c.args.lookahead _ _ c.requires _ c.pick-mark.ensures c.in-Some.is;
+    }
