@@ -9,7 +9,7 @@ use Rattle.tag_rule.specs.declared.stamp.Stamp.{Stamp}
 use Rattle.reference.specs.Calls.Call.{turning}
 use Rattle.reference.specs.Flows.{sum, others}
 use Rattle.reference.specs.Meaning.{Lawful, SameNumbers, whole}
-use Rattle.tag_rule.specs.Rule.{no_stamp, stamp_at, marked, charged, charge, entered_at}
+use Rattle.tag_rule.specs.Rule.{no_stamp, stamp_at, marked, charged, charge}
 use Rattle.tag_rule.specs.Tags.{
   Tagged,
   clock,

@@ -1,4 +1,4 @@
-use Rattle.std.proofs.Common.{◌≡◌, ◌<◌, ap, ◌∙◌, arith}
+use Rattle.std.proofs.Common.{◌≡◌, ap, ◌∙◌, arith}
 use Rattle.table.specs.Lines.{weights_sum}
 use Rattle.table.specs.Layout.{flow_lines}
 use Rattle.table.proofs.Reading.{total_positive}

@@ -1,4 +1,3 @@
-use Rattle.std.proofs.Common.{arith}
 use Rattle.tags.specs.Stored.{marked_below, marked_weight, marked_tag}
 use Rattle.tags.proofs.pick.take_turn.Goals as goal
 
