@@ -1,6 +1,6 @@
 -- Sums over the flows, and over all but one.
 use Rattle.std.proofs.Common.{◌≡◌, ℕ, zero, suc, ◌+◌, ◌-◌, ◌*◌, ◌<◌, ◌≤◌, ◌≢◌, List, [], ◌∷◌, map, length, get_or, set, sym, refl, ap, ◌∙◌, ⊎_elim, mul-add, arith}
-use Rattle.std.specs.List.{AllByRecursion as All}
+use Rattle.std.specs.List.{AllByRecursion}
 use Rattle.std.proofs.lemmas.List.{set_past}
 use Rattle.std.proofs.lemmas.Bool.{cases_lt, cases_eq}
 use Rattle.reference.specs.Flows.{sum, others}
@@ -71,11 +71,11 @@ module _ {A : Type 0} (g : A → ℕ) (d : A) where
   sum_below_is (x ∷ xs) = shifted (λ k. g (get_or (x ∷ xs) k d)) (length xs) ∙ ap (λ n. g x + n) (sum_below_is xs)
 
 module _ {A : Type 0} (g h : A → ℕ) where
-  pub sum_le : (xs : List A) → All (λ x. g x ≤ h x) xs → sum g xs ≤ sum h xs
+  pub sum_le : (xs : List A) → AllByRecursion (λ x. g x ≤ h x) xs → sum g xs ≤ sum h xs
   sum_le [] a = omega arith
   sum_le (x ∷ xs) a = omega (arith, a.0, sum_le xs a.1)
 
-  pub others_le : (xs : List A) (f : ℕ) → All (λ x. g x ≤ h x) xs → others g xs f ≤ others h xs f
+  pub others_le : (xs : List A) (f : ℕ) → AllByRecursion (λ x. g x ≤ h x) xs → others g xs f ≤ others h xs f
   others_le [] f a = omega arith
   others_le (x ∷ xs) zero a = sum_le xs a.1
   others_le (x ∷ xs) (suc f) a = omega (arith, a.0, others_le xs f a.1)

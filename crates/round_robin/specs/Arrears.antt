@@ -1,7 +1,7 @@
 -- What the beginning of a round and a mark do to the arrears.
 use Rattle.std.specs.Prelude.{◌≡◌, ℕ, zero, suc, ◌+◌, ◌-◌, ◌*◌, ◌<◌, ◌≤◌, true, false, ◌≢◌, List, [], ◌∷◌, map, length, nat_lt, slice_set, refl}
 use Rattle.std.proofs.Common.{sym, ap, ◌∙◌, arith, mul-add, mul_comm, mul_assoc, mul-le-mul_left}
-use Rattle.std.specs.List.{AllByRecursion as All}
+use Rattle.std.specs.List.{AllByRecursion}
 use Rattle.std.proofs.lemmas.List.{get_or-set_same, get_or-set_other, get_or-map}
 use Rattle.std.proofs.lemmas.Bool.{ltb-false}
 use Rattle.reference.specs.Flows.{sum, others}
@@ -53,7 +53,7 @@ zero_others (x ∷ xs) (suc f) = omega (arith, zero_others xs f)
 -- The beginning of a round lowers no due flow's arrears.
 
 pub renewed_arrears :
-    (qs : List Quota) (k : ℕ) → All Kept qs → (quota_at qs k).due ≡ true → arrears qs k ≤ arrears (renewed qs) k
+    (qs : List Quota) (k : ℕ) → AllByRecursion Kept qs → (quota_at qs k).due ≡ true → arrears qs k ≤ arrears (renewed qs) k
 renewed_arrears qs k a e =
     renewed_cases qs (λ m. arrears qs k ≤ arrears m k)
     (λ _ none.

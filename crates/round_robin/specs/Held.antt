@@ -1,7 +1,7 @@
 -- The array of a round robin, and what it holds.
 use Rattle.std.specs.Prelude.{◌≡◌, ℕ, ◌+◌, ◌-◌, ◌*◌, ◌<◌, ◌≤◌, Bool, true, false, List, [], ◌∷◌, ◌++◌, map, length, take, drop, set, Some, None, nat_lt, slice_index_or, slice_set, refl}
 use Rattle.std.proofs.Common.{sym, ap, subst, ◌∙◌, ⊎_elim, arith, le-ltb}
-use Rattle.std.specs.List.{AllByRecursion as All}
+use Rattle.std.specs.List.{AllByRecursion}
 use Rattle.std.proofs.lemmas.List.{get_or-take, get_or_past, get_or-map, get_or-set_same, get_or-set_other}
 use Rattle.std.proofs.lemmas.Bool.{cases_lt, cases_eq, lt-ltb}
 use Rattle.table.specs.Lines.{no_line, weights_sum}
@@ -170,7 +170,7 @@ module _ (r : RoundRobin) (ms : List Quota) (p : ℕ) (e : pointing_at p ms ≡ 
   pub turn_kept : KeptBelow (ms ++ drop r.count r.quotas) r.count
   turn_kept =
       front_each (ms ++ drop r.count r.quotas) r.count turn_sized r.few Kept no_quota
-      (subst (All Kept) (sym turn_front) turn_sound.kept)
+      (subst (AllByRecursion Kept) (sym turn_front) turn_sound.kept)
 
   pub turn_summed : r.total ≡ sum weight_of (take r.count (ms ++ drop r.count r.quotas))
   turn_summed = r.summed ∙ sym (ap (sum weight_of) turn_front ∙ turn_numbers.total)
@@ -191,7 +191,7 @@ pub found_used :
     → (quota_at ms f).used ≤ 16
 found_used h ms f s q e =
     let k =
-    quota_kept ms f (subst (All Kept) (sym q) (renewed_kept h.quotas s.kept)) (found_below h.pointer ms f e) in
+    quota_kept ms f (subst (AllByRecursion Kept) (sym q) (renewed_kept h.quotas s.kept)) (found_below h.pointer ms f e) in
     omega (arith, k.1, k.2)
 
 -- The start, from a table.

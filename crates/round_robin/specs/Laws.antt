@@ -1,7 +1,7 @@
 -- Round robin keeps the laws of a reference.
 use Rattle.std.specs.Prelude.{◌≡◌, ℕ, ◌+◌, ◌-◌, ◌*◌, ◌<◌, ◌≤◌, Bool, true, false, not, ◌&&◌, ltb, ◌≢◌, List, map, length, Some, None, Option, nat_lt, slice_set, refl}
 use Rattle.std.proofs.Common.{sym, ap, subst, ◌∙◌, ⊎_elim, arith, length-set}
-use Rattle.std.specs.List.{AllByRecursion as All}
+use Rattle.std.specs.List.{AllByRecursion}
 use Rattle.std.proofs.ByRecursion.{All-set}
 use Rattle.std.proofs.lemmas.List.{get_or-set_same, get_or-set_other, get_or-map, get_or_past, set_past, set-get_or, length-map}
 use Rattle.std.proofs.lemmas.Bool.{cases_lt, cases_Bool, and_parts, and_cases, not-false, ltb-true, lt-ltb, both_ways}
@@ -77,7 +77,7 @@ module _ (b : Bool) (h : Robin) (f : ℕ) where
         kept =
             ⊎_elim
             (λ l. All-set Kept h.quotas f q (quota_kept h.quotas f s.kept l) s.kept)
-            (λ l. subst (All Kept) (sym (set_past h.quotas f q l)) s.kept)
+            (λ l. subst (AllByRecursion Kept) (sym (set_past h.quotas f q l)) s.kept)
             (cases_lt f (length h.quotas));
       }
 
@@ -295,7 +295,7 @@ module _ (h : Robin) where
       split None e = e
       split (Some f) e = not_both (quota_at h.quotas f).due (none f) (marked_due h f e)
 
--- All laws.
+-- AllByRecursion laws.
 
 same_le : (a b : ℕ) → a ≡ b → b ≤ a
 same_le a b e = omega arith

@@ -1,6 +1,6 @@
 -- Round robin: one flow after another, each as often in a round as its weight says.
 use Rattle.std.specs.Prelude.{◌≡◌, ℕ, ◌+◌, ◌-◌, ◌*◌, ◌%◌, ◌<◌, ◌≤◌, Bool, true, false, cond, not, ◌&&◌, List, map, length, Some, None, Option, nat_lt, slice_index_or, slice_set}
-use Rattle.std.specs.List.{AllByRecursion as All}
+use Rattle.std.specs.List.{AllByRecursion}
 use Rattle.table.specs.declared.line.Line.{Line}
 use Rattle.reference.specs.Flows.{sum, others, some, around, away}
 use Rattle.reference.specs.Meaning.{Meaning, whole}
@@ -112,7 +112,7 @@ pub record Sound (h : Robin) : Type 0 where
   pub some_flows : 1 ≤ length h.quotas
   pub few_flows : length h.quotas ≤ 16
   pub points : h.pointer < length h.quotas
-  pub kept : All Kept h.quotas
+  pub kept : AllByRecursion Kept h.quotas
 
 -- every turn marks the flow that is first in turn
 abbrev pub MarksInTurn : Type 0

@@ -1,7 +1,7 @@
 -- The quotas of the flows, and what the beginning of a round leaves of them.
 use Rattle.std.specs.Prelude.{◌≡◌, ℕ, ◌<◌, ◌≤◌, true, false, not, ◌&&◌, List, map, length, refl}
 use Rattle.std.proofs.Common.{sym, ap, subst, ◌∙◌, ⊎_elim, arith}
-use Rattle.std.specs.List.{AllByRecursion as All}
+use Rattle.std.specs.List.{AllByRecursion}
 use Rattle.std.proofs.ByRecursion.{All-get_or, All-map, All-weaker}
 use Rattle.std.proofs.lemmas.List.{get_or_past, length-map}
 use Rattle.std.proofs.lemmas.Bool.{cases_lt, cases_Bool, and_parts, not-true}
@@ -13,10 +13,10 @@ use Rattle.round_robin.specs.RoundRobin.{no_quota, quota_at, weight_of, used_of,
 
 -- Quotas that are kept.
 
-pub quota_kept : (qs : List Quota) (f : ℕ) → All Kept qs → f < length qs → Kept (quota_at qs f)
+pub quota_kept : (qs : List Quota) (f : ℕ) → AllByRecursion Kept qs → f < length qs → Kept (quota_at qs f)
 quota_kept qs f a h = All-get_or Kept qs f no_quota h a
 
-pub used_le : (qs : List Quota) (f : ℕ) → All Kept qs → others used_of qs f ≤ others weight_of qs f
+pub used_le : (qs : List Quota) (f : ℕ) → AllByRecursion Kept qs → others used_of qs f ≤ others weight_of qs f
 used_le qs f a = others_le used_of weight_of qs f (All-weaker Kept (λ q. q.used ≤ q.weight) (λ q k. k.2) qs a)
 
 -- only a flow is due
@@ -53,9 +53,9 @@ module _ (qs : List Quota) where
   pub renewed_length : length (renewed qs) ≡ length qs
   renewed_length = renewed_cases (λ m. length m ≡ length qs) (λ _ _. simp length-map) refl
 
-  pub renewed_kept : All Kept qs → All Kept (renewed qs)
+  pub renewed_kept : AllByRecursion Kept qs → AllByRecursion Kept (renewed qs)
   renewed_kept a =
-      renewed_cases (All Kept)
+      renewed_cases (AllByRecursion Kept)
       (λ _ _. All-map Kept unused qs (All-weaker Kept (λ q. Kept (unused q)) (λ q k. (k.0, k.1, omega arith)) qs a))
       a
 

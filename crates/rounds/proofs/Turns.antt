@@ -1,7 +1,7 @@
 -- Turns one after another, and what they mark.
 use Rattle.std.proofs.Common.{◌≡◌, ℕ, zero, suc, ◌+◌, ◌<◌, true, List, [], ◌∷◌, ◌++◌, length, take, set, Some, None, Option, sym, refl, ap, ◌∙◌, add-one}
 use Rattle.std.proofs.lemmas.List.{take_more_set}
-use Rattle.std.specs.List.{AllByRecursion as All}
+use Rattle.std.specs.List.{AllByRecursion}
 use Rattle.reference.specs.Meaning.{Meaning, Lawful}
 use Rattle.reference.specs.Calls.{marks_of, turns_then}
 use Rattle.reference.specs.Shares.{NeverLeaves, HasShare}
@@ -54,14 +54,14 @@ module _ (M : Meaning) (L : Lawful M) (h : M.Held) where
   -- the marks of n turns from a state with the same flows due
   marks_due :
       (n : ℕ) (k : M.Held) → M.Sound k → ((f : ℕ) → M.due k f ≡ M.due h f)
-      → All (MarkIsDue M h) (marks_of M k (turns_then n []))
+      → AllByRecursion (MarkIsDue M h) (marks_of M k (turns_then n []))
   marks_due zero k sound same = tt
   marks_due (suc n) k sound same = (
     mark_due k sound same (M.marks k) refl,
     marks_due n (M.turned k) (L.turn_sound k sound) (λ f. L.turn_keeps_due k f sound ∙ same f),
   )
 
-  pub turns_mark_due : (n : ℕ) → M.Sound h → All (MarkIsDue M h) (marks_of M h (turns_then n []))
+  pub turns_mark_due : (n : ℕ) → M.Sound h → AllByRecursion (MarkIsDue M h) (marks_of M h (turns_then n []))
   turns_mark_due n sound = marks_due n h sound (λ f. refl)
 
   pub turns_have_share :

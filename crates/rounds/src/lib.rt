@@ -4,7 +4,7 @@
 #![tactic(auto)]
 
 ghost use Rattle.std.specs.Prelude.{◌≡◌, ℕ, ◌<◌, true, [], length};
-ghost use Rattle.std.specs.List.{AllByRecursion as All};
+ghost use Rattle.std.specs.List.{AllByRecursion};
 ghost use Rattle.reference.specs.Calls.{marks_of, turns_then};
 ghost use Rattle.reference.specs.Meaning.{SameNumbers};
 ghost use Rattle.reference.specs.Shares.{times_marked, HasShare, GivesShares};
@@ -34,7 +34,7 @@ pub fn enter_all<R: Reference>(reference: &mut R)
 pub fn take_turns<R: Reference>(reference: &mut R, marks: &mut [Option<u8>])
     ensures marks { marks.new ≡ marks_of R.meaning (R.held reference.old) (turns_then (length marks.old) []) }
     ensures after { R.held reference.new ≡ after_turns R.meaning (R.held reference.old) (length marks.old) }
-    ensures due { All (MarkIsDue R.meaning (R.held reference.old)) marks.new }
+    ensures due { AllByRecursion (MarkIsDue R.meaning (R.held reference.old)) marks.new }
     ensures shares { (f : ℕ) → R.meaning.due (R.held reference.old) f ≡ true → HasShare R.meaning (R.held reference.old) f marks.new }
     ensures always { GivesShares R.meaning (R.held reference.old) }
 {

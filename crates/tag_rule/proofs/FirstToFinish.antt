@@ -1,7 +1,7 @@
 -- The flow that a turn marks is the one that would finish first.
 use Rattle.std.proofs.Common.{◌≡◌, ℕ, zero, suc, ◌+◌, ◌<◌, ◌≤◌, Bool, true, false, ◌&&◌, eqb, ltb, ◌⊎◌, List, [], ◌∷◌, length, get_or, sym, refl, ap, subst, inl, inr, ⊎_elim, arith}
 use Rattle.std.specs.Cmp.{IsStrictWeakOrder}
-use Rattle.std.specs.List.{best_of, AllByRecursion as All}
+use Rattle.std.specs.List.{best_of, AllByRecursion}
 use Rattle.std.proofs.lemmas.List.MinMax.{IsFirstBest-from_best_of}
 use Rattle.std.proofs.ByRecursion.{All-from_get_or}
 use Rattle.std.proofs.lemmas.List.{get_or_past}
@@ -16,7 +16,7 @@ pub sooner_ranks : IsStrictWeakOrder sooner
 sooner_ranks = record { one_way = λ x y h. grind (arith, nat_tests); chain = λ x y z h k. grind (arith, nat_tests) }
 
 -- none of the entries is sooner than the best
-unbeaten : (x : Entry) (xs : List Entry) → All (λ e. sooner e (best_of sooner x xs) ≡ false) (x ∷ xs)
+unbeaten : (x : Entry) (xs : List Entry) → AllByRecursion (λ e. sooner e (best_of sooner x xs) ≡ false) (x ∷ xs)
 unbeaten x xs =
     let m = IsFirstBest-from_best_of sooner_ranks x xs in
     All-from_get_or (λ e. sooner e (best_of sooner x xs) ≡ false) (x ∷ xs) x
@@ -25,7 +25,7 @@ unbeaten x xs =
 -- what holds of all entries holds of that of each eligible flow
 each_entry :
     (P : Entry → Type 0) (v p i : ℕ) (ss : List Stamp)
-    → All P (entries v p i ss)
+    → AllByRecursion P (entries v p i ss)
     → (k : ℕ) → k < length ss → eligible v p (stamp_at ss k) ≡ true
     → P (record { finish = finish_tag (stamp_at ss k); flow = i + k })
 each_entry P v p i [] a k l e = absurd (omega arith)
@@ -33,20 +33,20 @@ each_entry P v p i (s ∷ ss) a k l e = split (eligible v p s) refl k l e (each_
   where
     split :
         (b : Bool) → eligible v p s ≡ b → (k : ℕ) → k < length (s ∷ ss) → eligible v p (stamp_at (s ∷ ss) k) ≡ true
-        → (All P (entries v p (i + 1) ss) → (k : ℕ) → k < length ss → eligible v p (stamp_at ss k) ≡ true
+        → (AllByRecursion P (entries v p (i + 1) ss) → (k : ℕ) → k < length ss → eligible v p (stamp_at ss k) ≡ true
         → P (record { finish = finish_tag (stamp_at ss k); flow = i + 1 + k }))
         → P (record { finish = finish_tag (stamp_at (s ∷ ss) k); flow = i + k })
     split true q zero l e more =
-        let all : All P (record { finish = finish_tag s; flow = i } ∷ entries v p (i + 1) ss) = rw q at a in
+        let all : AllByRecursion P (record { finish = finish_tag s; flow = i } ∷ entries v p (i + 1) ss) = rw q at a in
         let n : i ≡ i + 0 = omega arith in
         subst (λ f. P (record { finish = finish_tag s; flow = f })) n all.0
     split true q (suc k) l e more =
-        let all : All P (record { finish = finish_tag s; flow = i } ∷ entries v p (i + 1) ss) = rw q at a in
+        let all : AllByRecursion P (record { finish = finish_tag s; flow = i } ∷ entries v p (i + 1) ss) = rw q at a in
         let n : i + 1 + k ≡ i + suc k = omega arith in
         subst (λ f. P (record { finish = finish_tag (stamp_at ss k); flow = f })) n (more all.1 k (omega arith) e)
     split false q zero l e more = absurd (both_ways _ q e)
     split false q (suc k) l e more =
-        let all : All P (entries v p (i + 1) ss) = rw q at a in
+        let all : AllByRecursion P (entries v p (i + 1) ss) = rw q at a in
         let n : i + 1 + k ≡ i + suc k = omega arith in
         subst (λ f. P (record { finish = finish_tag (stamp_at ss k); flow = f })) n (more all k (omega arith) e)
 
@@ -88,7 +88,7 @@ first_to_finish c = split (entries c.time c.lookahead 0 c.stamps) refl
           λ g e.
               let o
               = each_entry (λ y. sooner y (best_of sooner x xs) ≡ false) c.time c.lookahead 0 c.stamps
-              (subst (All (λ y. sooner y (best_of sooner x xs) ≡ false)) (sym q) (unbeaten x xs)) g
+              (subst (AllByRecursion (λ y. sooner y (best_of sooner x xs) ≡ false)) (sym q) (unbeaten x xs)) g
               (eligible_inside c.time c.lookahead c.stamps g e) e in
               ⊎_elim
               (λ l. inl (omega (arith, l, b.2)))

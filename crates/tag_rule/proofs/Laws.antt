@@ -1,7 +1,7 @@
 -- The laws of tags.
 use Rattle.std.proofs.Common.{◌≡◌, ℕ, ◌+◌, ◌-◌, ◌*◌, ◌/◌, ◌<◌, ◌≤◌, max, Bool, true, false, leb, ◌≢◌, List, [], ◌∷◌, map, length, set, Some, None, Option, sym, refl, ap, ◌∙◌, subst, ⊎_elim, mul_comm, mul-le-mul_left, mul-add, arith, length-set}
 use lib.ListN.{length-map}
-use Rattle.std.specs.List.{AllByRecursion as All}
+use Rattle.std.specs.List.{AllByRecursion}
 use Rattle.std.proofs.ByRecursion.{All-get_or, All-set, All-map, All-weaker}
 use Rattle.std.proofs.lemmas.List.{get_or-set_same, get_or-set_other, get_or-map, get_or_past, set_past, set-get_or}
 use Rattle.std.proofs.lemmas.Bool.{cases_lt, and_parts, leb-true}
@@ -61,7 +61,7 @@ abbrev after_turn : Tagged → Tagged
 after_turn h = held_after h turning
 
 -- Stamps.
-pub stamp_kept : (p : ℕ) (ss : List Stamp) (f : ℕ) → All (Kept p) ss → f < length ss → Kept p (stamp_at ss f)
+pub stamp_kept : (p : ℕ) (ss : List Stamp) (f : ℕ) → AllByRecursion (Kept p) ss → f < length ss → Kept p (stamp_at ss f)
 stamp_kept p ss f a h = All-get_or (Kept p) ss f no_stamp h a
 
 inside : (ss : List Stamp) (f : ℕ) → (stamp_at ss f).due ≡ true → f < length ss
@@ -78,7 +78,7 @@ capped : (p : ℕ) (s : Stamp) → Kept p s → owed s ≤ whole * (p * s.weight
 capped p s k = owed_cap p s.weight s.tag k.0 k.1 k.4
 
 -- what the others owe is capped
-others_capped : (p : ℕ) (ss : List Stamp) (f : ℕ) → All (Kept p) ss → f < length ss → others owed ss f ≤ whole * (p * others weight_of ss f + (length ss - 1))
+others_capped : (p : ℕ) (ss : List Stamp) (f : ℕ) → AllByRecursion (Kept p) ss → f < length ss → others owed ss f ≤ whole * (p * others weight_of ss f + (length ss - 1))
 others_capped p ss f a l =
     let one : others owed ss f ≤ others (λ s. whole * (p * s.weight + 1)) ss f
     = others_le owed (λ s. whole * (p * s.weight + 1)) ss f (All-weaker (Kept p) (λ s. owed s ≤ whole * (p * s.weight + 1)) (capped p) ss a) in
@@ -89,7 +89,7 @@ others_capped p ss f a l =
     omega arith
 
 -- Virtual time moves on by d, at most the tag of the due flow g.
-module _ (p d : ℕ) (ss : List Stamp) (g : ℕ) (a : All (Kept p) ss) (l : g < length ss) (le : d ≤ (stamp_at ss g).tag) where
+module _ (p d : ℕ) (ss : List Stamp) (g : ℕ) (a : AllByRecursion (Kept p) ss) (l : g < length ss) (le : d ≤ (stamp_at ss g).tag) where
   later_arrears : arrears p ss g ≤ arrears p (map (later d) ss) g
   later_arrears =
       let e1 : stamp_at (map (later d) ss) g ≡ later d (stamp_at ss g) = get_or-map (later d) ss g no_stamp no_stamp l in
@@ -118,13 +118,13 @@ module _ (p d : ℕ) (ss : List Stamp) (g : ℕ) (a : All (Kept p) ss) (l : g < 
           let three : others (λ s. d * s.weight) ss g ≡ d * others weight_of ss g = others_times d weight_of ss g in
           omega arith
 
-later_kept : (p d : ℕ) (ss : List Stamp) → All (Kept p) ss → All (Kept p) (map (later d) ss)
+later_kept : (p d : ℕ) (ss : List Stamp) → AllByRecursion (Kept p) ss → AllByRecursion (Kept p) (map (later d) ss)
 later_kept p d ss a =
     All-map (Kept p) (later d) ss
     (All-weaker (Kept p) (λ s. Kept p (later d s)) (λ s k. (k.0, k.1, k.2, k.3, omega (arith, k.4))) ss a)
 
 -- what settling leaves
-settled_arrears : (p : ℕ) (ss : List Stamp) (g : ℕ) → All (Kept p) ss → (stamp_at ss g).due ≡ true → arrears p ss g ≤ arrears p (settled ss) g
+settled_arrears : (p : ℕ) (ss : List Stamp) (g : ℕ) → AllByRecursion (Kept p) ss → (stamp_at ss g).due ≡ true → arrears p ss g ≤ arrears p (settled ss) g
 settled_arrears p ss g a e = later_arrears p (advance ss) ss g a (inside ss g e) (advance_le ss g (inside ss g e) e)
 
 settled_part : {B : Type 0} (t : Stamp → B) → ((d : ℕ) (s : Stamp) → t (later d s) ≡ t s) → (ss : List Stamp) (k : ℕ) → t (stamp_at (settled ss) k) ≡ t (stamp_at ss k)
@@ -180,7 +180,7 @@ module _ (p : ℕ) (ss : List Stamp) (f : ℕ) (y : Stamp) (share : y.weight ≡
             later_kept p (advance (set ss f y)) (set ss f y)
             (⊎_elim
             (λ l. All-set (Kept p) ss f y (k l) s.kept)
-            (λ l. subst (All (Kept p)) (sym (set_past ss f y l)) s.kept)
+            (λ l. subst (AllByRecursion (Kept p)) (sym (set_past ss f y l)) s.kept)
             (cases_lt f (length ss)));
         on_time = settled_again (set ss f y);
       }
@@ -241,10 +241,10 @@ module _ (b : Bool) (h : Tagged) (f : ℕ) where
       let ss = set h.stamps f (flagged b (stamp_at h.stamps f)) in
       let d : (stamp_at (set h.stamps f (flagged b (stamp_at h.stamps f))) k).due ≡ true
       = ap is_due (get_or-set_other h.stamps f k (flagged b (stamp_at h.stamps f)) no_stamp (λ q. n (sym q))) ∙ e in
-      let kept : All (Kept h.lookahead) (set h.stamps f (flagged b (stamp_at h.stamps f)))
+      let kept : AllByRecursion (Kept h.lookahead) (set h.stamps f (flagged b (stamp_at h.stamps f)))
       = ⊎_elim
       (λ l. All-set (Kept h.lookahead) h.stamps f (flagged b (stamp_at h.stamps f)) (stamp_kept h.lookahead h.stamps f s.kept l) s.kept)
-      (λ l. subst (All (Kept h.lookahead)) (sym (set_past h.stamps f (flagged b (stamp_at h.stamps f)) l)) s.kept)
+      (λ l. subst (AllByRecursion (Kept h.lookahead)) (sym (set_past h.stamps f (flagged b (stamp_at h.stamps f)) l)) s.kept)
       (cases_lt f (length h.stamps)) in
       subst (λ n. n ≤ arrears h.lookahead (set_due b h f).stamps k) (switch_arrears k) (settled_arrears h.lookahead ss k kept d)
 
@@ -333,7 +333,7 @@ total_less : (ss : List Stamp) (f : ℕ) → f < length ss → others weight_of 
 total_less ss f l = omega (arith, sum_split weight_of no_stamp ss f l)
 
 module _ (h : Tagged) (f : ℕ) (s : Sound h) (e : picked h ≡ Some f) where
-  charged_all : All (Kept h.lookahead) (set h.stamps f (charged (stamp_at h.stamps f)))
+  charged_all : AllByRecursion (Kept h.lookahead) (set h.stamps f (charged (stamp_at h.stamps f)))
   charged_all =
       let m = picked_parts h f e in
       All-set (Kept h.lookahead) h.stamps f (charged (stamp_at h.stamps f))

@@ -1,6 +1,6 @@
 -- The flow that a turn marks: what it is, and that there is one if a flow is due.
 use Rattle.std.proofs.Common.{◌≡◌, ℕ, zero, suc, ◌+◌, ◌<◌, Bool, true, false, cond, List, [], ◌∷◌, length, Some, None, sym, refl, ap, ◌∙◌, subst, ⊎_elim, arith}
-use Rattle.std.specs.List.{best_of, AllByRecursion as All}
+use Rattle.std.specs.List.{best_of, AllByRecursion}
 use Rattle.std.proofs.ByRecursion.{All-weaker}
 use Rattle.std.proofs.lemmas.Bool.{cases_Bool, and_from, le-leb, both_ways, cond_both}
 use Rattle.tag_rule.specs.declared.stamp.Stamp.{Stamp}
@@ -14,21 +14,21 @@ Of : ℕ → ℕ → ℕ → List Stamp → Entry → Type 0
 Of v p i ss e =
     (k : ℕ) × (e.flow ≡ i + k) × (k < length ss) × (eligible v p (stamp_at ss k) ≡ true) × (e.finish ≡ finish_tag (stamp_at ss k))
 
-entries_of : (v p i : ℕ) (ss : List Stamp) → All (Of v p i ss) (entries v p i ss)
+entries_of : (v p i : ℕ) (ss : List Stamp) → AllByRecursion (Of v p i ss) (entries v p i ss)
 unfolding Of
 entries_of v p i [] = tt
 entries_of v p i (s ∷ ss) =
-    let rest : All (Of v p i (s ∷ ss)) (entries v p (i + 1) ss)
+    let rest : AllByRecursion (Of v p i (s ∷ ss)) (entries v p (i + 1) ss)
     = All-weaker (Of v p (i + 1) ss) (Of v p i (s ∷ ss))
     (λ e o. (suc o.0, omega (arith, o.1), omega (arith, o.2), o.3, o.4))
     (entries v p (i + 1) ss)
     (entries_of v p (i + 1) ss) in
     cond_both (eligible v p s) (record { finish = finish_tag s; flow = i } ∷ entries v p (i + 1) ss) (entries v p (i + 1) ss)
-    (All (Of v p i (s ∷ ss)))
+    (AllByRecursion (Of v p i (s ∷ ss)))
     (λ e. ((0, omega arith, omega arith, e, refl), rest))
     (λ e. rest)
 
-best_all : (P : Entry → Type 0) (a : Entry) (xs : List Entry) → P a → All P xs → P (best_of sooner a xs)
+best_all : (P : Entry → Type 0) (a : Entry) (xs : List Entry) → P a → AllByRecursion P xs → P (best_of sooner a xs)
 best_all P a [] h t = h
 best_all P a (x ∷ xs) h t =
     best_all P (cond (sooner x a) x a) xs (cond_both (sooner x a) x a P (λ _. t.0) (λ _. h)) t.1
@@ -41,7 +41,7 @@ pub best_entry :
     → (f < length ss) × (eligible v p (stamp_at ss f) ≡ true) × ((best_of sooner x xs).finish ≡ finish_tag (stamp_at ss f))
 unfolding Of
 best_entry v p ss x xs q f r =
-    let a : All (Of v p 0 ss) (x ∷ xs) = subst (All (Of v p 0 ss)) q (entries_of v p 0 ss) in
+    let a : AllByRecursion (Of v p 0 ss) (x ∷ xs) = subst (AllByRecursion (Of v p 0 ss)) q (entries_of v p 0 ss) in
     let o : Of v p 0 ss (best_of sooner x xs) = best_all (Of v p 0 ss) x xs a.0 a.1 in
     let k : f ≡ o.0 = omega (arith, r, o.1) in
     (omega (arith, k, o.2), ap (λ n. eligible v p (stamp_at ss n)) k ∙ o.3, o.4 ∙ ap (λ n. finish_tag (stamp_at ss n)) (sym k))

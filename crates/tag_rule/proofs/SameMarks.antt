@@ -1,7 +1,7 @@
 -- Start tags less virtual time mark as start tags and virtual time do, for ever.
 use Rattle.std.proofs.Common.{◌≡◌, ℕ, ◌+◌, ◌-◌, ◌*◌, ◌/◌, ◌<◌, ◌≤◌, max, Bool, true, false, cond, ◌&&◌, leb, List, [], ◌∷◌, map, length, set, Some, None, Option, sym, refl, ap, ◌∙◌, subst, ⊎_elim, arith}
 use lib.ListN.{length-map}
-use Rattle.std.specs.List.{best_of, AllByRecursion as All}
+use Rattle.std.specs.List.{best_of, AllByRecursion}
 use Rattle.std.proofs.ByRecursion.{All-get_or, All-set, All-from_get_or}
 use Rattle.std.proofs.lemmas.List.{get_or-map, get_or-set_same, get_or-set_other, map-set, set_past}
 use Rattle.std.proofs.lemmas.Bool.{cases_lt, cases_eq, both_ways, and_parts}
@@ -53,7 +53,7 @@ early v e = record { finish = e.finish + v; flow = e.flow }
 same_test : (v p : ℕ) (s : Stamp) → eligible v p s ≡ eligible 0 p (later v s)
 same_test v p s = ap (λ b. s.due && b) (grind (arith, nat_tests))
 
-entries_is : (v p i : ℕ) (ss : List Stamp) → All (Ahead v) ss → entries v p i ss ≡ map (early v) (entries 0 p i (map (later v) ss))
+entries_is : (v p i : ℕ) (ss : List Stamp) → AllByRecursion (Ahead v) ss → entries v p i ss ≡ map (early v) (entries 0 p i (map (later v) ss))
 entries_is v p i [] a = refl
 entries_is v p i (s ∷ ss) a = split (eligible 0 p (later v s)) refl (entries_is v p (i + 1) ss a.1)
   where
@@ -84,7 +84,7 @@ soonest_early : (v : ℕ) (es : List Entry) → soonest (map (early v) es) ≡ s
 soonest_early v [] = refl
 soonest_early v (e ∷ es) = ap (λ x. Some x.flow) (best_early v e es)
 
-same_mark : (c : Clock) → All (Ahead c.time) c.stamps → marked c ≡ marked (clock (seen c))
+same_mark : (c : Clock) → AllByRecursion (Ahead c.time) c.stamps → marked c ≡ marked (clock (seen c))
 same_mark c a =
     ap soonest (entries_is c.time c.lookahead 0 c.stamps a)
     ∙ soonest_early c.time (entries 0 c.lookahead 0 (map (later c.time) c.stamps))
@@ -95,7 +95,7 @@ later_later v d [] = refl
 later_later v d (s ∷ ss) =
     let e : s.tag - v - d ≡ s.tag - (v + d) = omega arith in rw e (ap (λ zs. later (v + d) s ∷ zs) (later_later v d ss))
 
-time_is : (v : ℕ) (ss : List Stamp) → All (Ahead v) ss → v + advance (map (later v) ss) ≡ time_after v (lowest ss)
+time_is : (v : ℕ) (ss : List Stamp) → AllByRecursion (Ahead v) ss → v + advance (map (later v) ss) ≡ time_after v (lowest ss)
 time_is v ss a = ap (λ o. v + time_after 0 o) (lowest_later v ss) ∙ split (lowest ss) refl
   where
     split : (o : Option ℕ) → lowest ss ≡ o → v + time_after 0 (fallen v o) ≡ time_after v o
@@ -105,10 +105,10 @@ time_is v ss a = ap (λ o. v + time_after 0 o) (lowest_later v ss) ∙ split (lo
         let l : v ≤ (stamp_at ss k.0).tag = All-get_or (Ahead v) ss k.0 no_stamp k.1 a k.2 in
         omega (arith, l, k.3)
 
-seen_later : (v : ℕ) (ss : List Stamp) → All (Ahead v) ss → map (later (time_after v (lowest ss))) ss ≡ settled (map (later v) ss)
+seen_later : (v : ℕ) (ss : List Stamp) → AllByRecursion (Ahead v) ss → map (later (time_after v (lowest ss))) ss ≡ settled (map (later v) ss)
 seen_later v ss a = ap (λ t. map (later t) ss) (sym (time_is v ss a)) ∙ sym (later_later v (advance (map (later v) ss)) ss)
 
-call_ahead : (c : Clock) (x : Call) → All (Ahead (clock_after c x).time) (stamps_after c x)
+call_ahead : (c : Clock) (x : Call) → AllByRecursion (Ahead (clock_after c x).time) (stamps_after c x)
 call_ahead c x =
     All-from_get_or (Ahead (clock_after c x).time) (stamps_after c x) no_stamp
     (λ k l d.
@@ -130,12 +130,12 @@ module _ (v : ℕ) (ss : List Stamp) (f : ℕ) (y : Stamp) where
       ap (map (later v)) (set_past ss f y l) ∙ sym (set_past (map (later v) ss) f (g (stamp_at (map (later v) ss) f)) m))
       (cases_lt f (length ss))
 
-  set_ahead : All (Ahead v) ss → Ahead v y → All (Ahead v) (set ss f y)
+  set_ahead : AllByRecursion (Ahead v) ss → Ahead v y → AllByRecursion (Ahead v) (set ss f y)
   set_ahead a h = All-set (Ahead v) ss f y h a
 
 -- the flow that a turn marks is due, and so not behind
 marked_ahead :
-    (c : Clock) (a : All (Ahead c.time) c.stamps) (f : ℕ) → marked c ≡ Some f
+    (c : Clock) (a : AllByRecursion (Ahead c.time) c.stamps) (f : ℕ) → marked c ≡ Some f
     → (f < length c.stamps) × (c.time ≤ (stamp_at c.stamps f).tag)
 marked_ahead c a f e =
     let m = picked_eligible 0 c.lookahead (seen c).stamps f (sym (same_mark c a) ∙ e) in
@@ -145,15 +145,15 @@ marked_ahead c a f e =
     ∙ (and_parts (stamp_at (seen c).stamps f).due (leb (stamp_at (seen c).stamps f).tag (0 + c.lookahead * whole)) m.1).0 in
     (l, All-get_or (Ahead c.time) c.stamps f no_stamp l a d)
 
-module _ (c : Clock) (a : All (Ahead c.time) c.stamps) where
+module _ (c : Clock) (a : AllByRecursion (Ahead c.time) c.stamps) where
   -- a call puts no due flow behind
-  charge_ahead : (o : Option ℕ) → marked c ≡ o → All (Ahead c.time) (charge c.stamps o)
+  charge_ahead : (o : Option ℕ) → marked c ≡ o → AllByRecursion (Ahead c.time) (charge c.stamps o)
   charge_ahead None e = a
   charge_ahead (Some f) e =
       let m = marked_ahead c a f e in
       set_ahead c.time c.stamps f (charged (stamp_at c.stamps f)) a (λ _. omega (arith, m.1))
 
-  stamps_ahead : (x : Call) → All (Ahead c.time) (stamps_after c x)
+  stamps_ahead : (x : Call) → AllByRecursion (Ahead c.time) (stamps_after c x)
   stamps_ahead turning = charge_ahead (marked c) refl
   stamps_ahead (entering f) =
       set_ahead c.time c.stamps f (entered_at c.time (stamp_at c.stamps f)) a (λ _. omega arith)
@@ -188,7 +188,7 @@ module _ (c : Clock) (a : All (Ahead c.time) c.stamps) where
 
 -- The same marks for ever.
 same_marks :
-    (c : Clock) → All (Ahead c.time) c.stamps → (calls : List Call) → marks_of tags (seen c) calls ≡ rule_marks c calls
+    (c : Clock) → AllByRecursion (Ahead c.time) c.stamps → (calls : List Call) → marks_of tags (seen c) calls ≡ rule_marks c calls
 same_marks c a [] = refl
 same_marks c a (turning ∷ xs) =
     ap (λ o. o ∷ marks_of tags (held_after (seen c) turning) xs) (sym (same_mark c a))
@@ -202,8 +202,8 @@ same_marks c a (leaving f ∷ xs) =
     ∙ same_marks (clock_after c (leaving f)) (call_ahead c (leaving f)) xs
 
 all_ahead :
-    (c : Clock) → All (Ahead c.time) c.stamps → (calls : List Call)
-    → All (Ahead (clock_after_all c calls).time) (clock_after_all c calls).stamps
+    (c : Clock) → AllByRecursion (Ahead c.time) c.stamps → (calls : List Call)
+    → AllByRecursion (Ahead (clock_after_all c calls).time) (clock_after_all c calls).stamps
 all_ahead c a [] = a
 all_ahead c a (x ∷ xs) = all_ahead (clock_after c x) (call_ahead c x) xs
 
@@ -243,5 +243,5 @@ start_follows p ls =
       tags_grow = λ calls x f. tags_grow (clock_after_all (start p ls) calls) x f;
     }
   where
-    ahead : All (Ahead 0) (start p ls).stamps
+    ahead : AllByRecursion (Ahead 0) (start p ls).stamps
     ahead = All-from_get_or (Ahead 0) (start p ls).stamps no_stamp (λ k l d. omega arith)

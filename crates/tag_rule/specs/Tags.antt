@@ -1,7 +1,7 @@
 -- What tags hold, and what they mean. Only start tags less virtual time matter (0 for one below it): so just these are
 -- held, and they stay bounded.
 use Rattle.std.specs.Prelude.{◌≡◌, ℕ, ◌+◌, ◌-◌, ◌*◌, ◌/◌, ◌<◌, ◌≤◌, Bool, cond, List, map, length, Some, None, Option, nat_lt}
-use Rattle.std.specs.List.{AllByRecursion as All}
+use Rattle.std.specs.List.{AllByRecursion}
 use Rattle.reference.specs.Calls.{Call, marks_of}
 use Rattle.reference.specs.Calls.Call.{turning, entering, leaving}
 use Rattle.reference.specs.Flows.{sum, others}
@@ -87,7 +87,7 @@ pub record Sound (h : Tagged) : Type 0 where
   pub some_flows : 1 ≤ length h.stamps
   pub few_flows : length h.stamps ≤ 16
   pub looks : h.lookahead ≤ 16
-  pub kept : All (Kept h.lookahead) h.stamps
+  pub kept : AllByRecursion (Kept h.lookahead) h.stamps
   -- the smallest start tag of the due flows is virtual time
   pub on_time : advance h.stamps ≡ 0
 

@@ -3,5 +3,5 @@
 #![tactic(auto)]
 
 pub mod entry;
-pub mod order;
+pub mod entry_order;
 pub mod stamp;

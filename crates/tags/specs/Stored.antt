@@ -1,7 +1,7 @@
 -- The array of the code and the stamps that it stands for.
 use Rattle.std.specs.Prelude.{◌≡◌, ℕ, ◌-◌, ◌*◌, ◌<◌, ◌≤◌, Bool, true, false, List, ◌++◌, length, take, drop, Some, None, Option, nat_lt, slice_set, refl}
 use Rattle.std.proofs.Common.{sym, ap, subst, ◌∙◌, arith, length-set}
-use Rattle.std.specs.List.{AllByRecursion as All}
+use Rattle.std.specs.List.{AllByRecursion}
 use Rattle.std.proofs.ByRecursion.{All-get_or}
 use Rattle.std.proofs.lemmas.List.{get_or-take, get_or_past}
 use Rattle.std.proofs.lemmas.Bool.{ltb-true, ltb-false}
@@ -24,7 +24,7 @@ use Rattle.tag_rule.proofs.Laws.{flagged, switched_is, tags_lawful, picked_parts
 pub front_at : (ss : List Stamp) (n k : ℕ) → k < n → stamp_at (take n ss) k ≡ stamp_at ss k
 front_at ss n k h = get_or-take n ss k no_stamp h
 
-pub all_below : (p : ℕ) (ss : List Stamp) → All (Kept p) ss → KeptBelow p ss (length ss)
+pub all_below : (p : ℕ) (ss : List Stamp) → AllByRecursion (Kept p) ss → KeptBelow p ss (length ss)
 all_below p ss a k l = All-get_or (Kept p) ss k no_stamp l a
 
 pub held_length : (t : Tags) → length (take t.count t.stamps) ≡ t.count
@@ -79,7 +79,7 @@ module _ (t : Tags) (x : Call) (bs ms : List Stamp) (z : length bs ≡ 16) (e : 
         sized = l;
         kept =
             front_each (ms ++ drop t.count bs) t.count l t.few (Kept t.lookahead) no_stamp
-            (subst (All (Kept t.lookahead)) (sym front) sounds.kept);
+            (subst (AllByRecursion (Kept t.lookahead)) (sym front) sounds.kept);
         on_time = ap advance front ∙ sounds.on_time;
         summed = t.summed ∙ sym numbers.total ∙ ap (sum weight_of) (sym front);
       }

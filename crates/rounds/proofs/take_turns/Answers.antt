@@ -1,6 +1,6 @@
 use Rattle.std.proofs.Common.{◌≡◌, [], length, sym, subst, arith, rules}
 use Rattle.std.proofs.lemmas.List.{take_all}
-use Rattle.std.specs.List.{AllByRecursion as All}
+use Rattle.std.specs.List.{AllByRecursion}
 use Rattle.reference.specs.Calls.{marks_of, turns_then}
 use Rattle.reference.specs.Shares.{HasShare}
 use Rattle.reference.proofs.Shares.{gives_shares}
@@ -32,7 +32,7 @@ returns g c =
     record {
       marks = e;
       after = cc;
-      due = subst (All (MarkIsDue M h)) (sym e) (turns_mark_due M L h n sound);
+      due = subst (AllByRecursion (MarkIsDue M h)) (sym e) (turns_mark_due M L h n sound);
       shares = λ f due. subst (HasShare M h f) (sym e) (turns_have_share M L h n f sound due);
       always = gives_shares M L h sound;
     }
