@@ -1,4 +1,4 @@
--- The laws of one flow.
+-- Proofs: one flow keeps the laws of a reference.
 use Rattle.std.specs.Prelude.{refl}
 use Rattle.std.proofs.Common.{arith}
 use Rattle.std.proofs.lemmas.Bool.Decides.{nat_tests}

@@ -1,7 +1,5 @@
 ghost use Rattle.std.specs.Prelude.{◌*◌, ◌<◌, nat_lt};
-ghost use Rattle.std.proofs.lemmas.Bool.{ltb-true, ltb-false, le-ltb};
-ghost use Rattle.std.proofs.Common.{arith};
-ghost use Rattle.order.specs.Fractions.{fractions_chain};
+ghost use Rattle.order.specs.Fractions.{fractions_one_way, fractions_chain};
 
 use crate::{TotalOrder, least};
 
@@ -17,12 +15,8 @@ impl TotalOrder for Fraction {
     ghost before = { λ x y. nat_lt (x.top * y.bottom) (y.top * x.bottom) };
 
     ghost ranks = { record {
-      one_way = λ x y h. le-ltb _ _ (omega (arith, ltb-true (x.top * y.bottom) (y.top * x.bottom) h));
-      chain =
-          λ x y z h k.
-          le-ltb _ _
-          (fractions_chain x.top x.bottom y.top y.bottom z.top z.bottom y.positive (ltb-false _ _ h)
-          (ltb-false _ _ k));
+      one_way = λ x y h. fractions_one_way x.top x.bottom y.top y.bottom h;
+      chain = λ x y z h k. fractions_chain x.top x.bottom y.top y.bottom z.top z.bottom y.positive h k;
     } };
 
     fn precedes(&self, other: &Fraction) -> bool {

@@ -1,4 +1,4 @@
--- What the beginning of a round and a mark do to the arrears.
+-- Proofs, for the laws: what the beginning of a round and a mark do to the arrears.
 use Rattle.std.specs.Prelude.{◌≡◌, ℕ, zero, suc, ◌+◌, ◌-◌, ◌*◌, ◌<◌, ◌≤◌, true, false, ◌≢◌, List, [], ◌∷◌, map, length, nat_lt, slice_set, refl}
 use Rattle.std.proofs.Common.{sym, ap, ◌∙◌, arith, mul-add, mul_comm, mul_assoc, mul-le-mul_left}
 use Rattle.std.specs.List.{AllByRecursion}

@@ -1,4 +1,4 @@
--- The array of a round robin, and what it holds.
+-- Proofs, for the laws and the code: the array of a round robin, and what it holds.
 use Rattle.std.specs.Prelude.{◌≡◌, ℕ, ◌+◌, ◌-◌, ◌*◌, ◌<◌, ◌≤◌, Bool, true, false, List, [], ◌∷◌, ◌++◌, map, length, take, drop, set, Some, None, nat_lt, slice_index_or, slice_set, refl}
 use Rattle.std.proofs.Common.{sym, ap, subst, ◌∙◌, ⊎_elim, arith, le-ltb}
 use Rattle.std.specs.List.{AllByRecursion}

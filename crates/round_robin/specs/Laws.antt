@@ -1,4 +1,4 @@
--- Round robin keeps the laws of a reference.
+-- Proofs: round robin keeps the laws of a reference.
 use Rattle.std.specs.Prelude.{◌≡◌, ℕ, ◌+◌, ◌-◌, ◌*◌, ◌<◌, ◌≤◌, Bool, true, false, not, ◌&&◌, ltb, ◌≢◌, List, map, length, Some, None, Option, nat_lt, slice_set, refl}
 use Rattle.std.proofs.Common.{sym, ap, subst, ◌∙◌, ⊎_elim, arith, length-set}
 use Rattle.std.specs.List.{AllByRecursion}

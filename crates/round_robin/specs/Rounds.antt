@@ -1,4 +1,4 @@
--- The quotas of the flows, and what the beginning of a round leaves of them.
+-- Proofs, for the laws: the quotas of the flows, and what the beginning of a round leaves of them.
 use Rattle.std.specs.Prelude.{◌≡◌, ℕ, ◌<◌, ◌≤◌, true, false, not, ◌&&◌, List, map, length, refl}
 use Rattle.std.proofs.Common.{sym, ap, subst, ◌∙◌, ⊎_elim, arith}
 use Rattle.std.specs.List.{AllByRecursion}

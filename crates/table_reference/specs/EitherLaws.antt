@@ -1,4 +1,4 @@
--- Either of two lawful references is lawful.
+-- Proofs: either of two lawful references is lawful.
 use Rattle.std.proofs.Common.{ap, inl, inr}
 use Rattle.std.specs.Prelude.{◌⊎◌}
 use Rattle.reference.specs.Meaning.{Meaning, Lawful, SameNumbers}

@@ -10,10 +10,8 @@ use Rattle.std.proofs.lemmas.Bool.Decides.{nat_tests}
 use Rattle.tag_rule.specs.declared.entry.Entry.{Entry}
 use Rattle.tag_rule.specs.declared.stamp.Stamp.{Stamp}
 use Rattle.tag_rule.specs.Rule.{Clock, no_stamp, stamp_at, eligible, finish_tag, entries, sooner, soonest, marked, FirstToFinish}
+use Rattle.tag_rule.specs.Ranks.{sooner_ranks}
 use Rattle.tag_rule.proofs.Picks.{best_entry, entries_none}
-
-pub sooner_ranks : IsStrictWeakOrder sooner
-sooner_ranks = record { one_way = λ x y h. grind (arith, nat_tests); chain = λ x y z h k. grind (arith, nat_tests) }
 
 -- none of the entries is sooner than the best
 unbeaten : (x : Entry) (xs : List Entry) → AllByRecursion (λ e. sooner e (best_of sooner x xs) ≡ false) (x ∷ xs)

@@ -1,5 +1,5 @@
 ghost use Rattle.tag_rule.specs.Rule.{sooner};
-ghost use Rattle.std.proofs.Common.{rules};
+ghost use Rattle.tag_rule.specs.Ranks.{sooner_ranks};
 
 use crate::entry::Entry;
 use order::TotalOrder;
@@ -7,7 +7,7 @@ use order::TotalOrder;
 impl TotalOrder for Entry {
     ghost before = { sooner };
 
-    ghost ranks = { Prim.search rules };
+    ghost ranks = { sooner_ranks };
 
     fn precedes(&self, other: &Entry) -> bool {
         self.finish < other.finish || self.finish == other.finish && self.flow < other.flow

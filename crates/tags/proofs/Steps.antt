@@ -5,7 +5,7 @@ use Rattle.std.proofs.lemmas.List.MinMax.{IsFirstBest-from_best_of, IsFirstBest-
 use Rattle.std.proofs.lemmas.List.{drop_all, drop_more, take_more_set, get_or_default, nil_from_length}
 use Rattle.tag_rule.specs.declared.stamp.Stamp.{Stamp}
 use Rattle.tag_rule.specs.declared.entry.Entry.{Entry}
-use Rattle.tag_rule.proofs.FirstToFinish.{sooner_ranks}
+use Rattle.tag_rule.specs.Ranks.{sooner_ranks}
 use Rattle.tag_rule.specs.Rule.{no_stamp, stamp_at, eligible, finish_tag, lower, lowest, entries, sooner, soonest}
 
 -- The lowest so far, with the lowest of the rest.
