@@ -4,9 +4,10 @@
 usage: tools/respell.py          at the top of the repository, once, right after the kit's port.py
 
 Types and facts are in upper camel case (Good-frame becomes GoodFrame), everything else in snake case (kind-number becomes
-kind_number). The names are those that the files of specs/ and proofs/ declare with a dash in them. The names of goals,
-which Rattle makes, stay, and so do names of libraries, of Rust items, strings, and prose. The crate `bytes` becomes
-`octets`, since the kit has a library `bytes`. It prints each new name, with a word where two names would fall together.
+kind_number). The names are those with a dash in them that the files of specs/ and proofs/ declare, or that an import gives by `as`, in
+the code too. The names of goals, which Rattle makes, stay, and so do names of libraries, of Rust items, strings, and prose.
+The crate `bytes` becomes `octets`, since the kit has a library `bytes`. It prints each new name, and MEETS where the file that
+has the old name has the new one already. Names that port.py has turned before are not seen.
 """
 
 import os

@@ -5,8 +5,8 @@ use Rattle.std.proofs.lemmas.Bool.{ltb-true, ltb-false, le-ltb}
 use Rattle.std.proofs.Math.Nat.{le_of_mul-le-mul_left}
 
 -- if b / y is at most a / x, and c / z at most b / y, then c / z is at most a / x
-cross_products : (a x b y c z : ℕ) → 0 < y → b * x ≤ a * y → c * y ≤ b * z → c * x ≤ a * z
-cross_products a x b y c z positive p q =
+pub fractions_chain : (a x b y c z : ℕ) → 0 < y → b * x ≤ a * y → c * y ≤ b * z → c * x ≤ a * z
+fractions_chain a x b y c z positive p q =
     let one : z * (b * x) ≤ z * (a * y) = mul-le-mul_left z p in
     let two : x * (c * y) ≤ x * (b * z) = mul-le-mul_left x q in
     let l : x * (c * y) ≡ y * (c * x) = simp (mul_comm, mul_left_comm) in
@@ -16,11 +16,11 @@ cross_products a x b y c z positive p q =
     le_of_mul-le-mul_left all positive
 
 -- a fraction below another is not above it
-pub fractions_one_way : (a x b y : ℕ) → nat_lt (a * y) (b * x) ≡ true → nat_lt (b * x) (a * y) ≡ false
-fractions_one_way a x b y h = le-ltb _ _ (omega (arith, ltb-true (a * y) (b * x) h))
+pub below_one_way : (a x b y : ℕ) → nat_lt (a * y) (b * x) ≡ true → nat_lt (b * x) (a * y) ≡ false
+below_one_way a x b y h = le-ltb _ _ (omega (arith, ltb-true (a * y) (b * x) h))
 
 -- a / x is not below b / y, and that is not below c / z: so a / x is not below c / z
-pub fractions_chain :
+pub below_chain :
     (a x b y c z : ℕ) → 0 < y → nat_lt (a * y) (b * x) ≡ false → nat_lt (b * z) (c * y) ≡ false → nat_lt (a * z) (c * x) ≡ false
-fractions_chain a x b y c z positive h k =
-    le-ltb _ _ (cross_products a x b y c z positive (ltb-false _ _ h) (ltb-false _ _ k))
+below_chain a x b y c z positive h k =
+    le-ltb _ _ (fractions_chain a x b y c z positive (ltb-false _ _ h) (ltb-false _ _ k))

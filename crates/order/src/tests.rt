@@ -1,5 +1,5 @@
 ghost use Rattle.std.specs.Prelude.{◌*◌, ◌<◌, nat_lt};
-ghost use Rattle.order.specs.Fractions.{fractions_one_way, fractions_chain};
+ghost use Rattle.order.specs.Fractions.{below_one_way, below_chain};
 
 use crate::{TotalOrder, least};
 
@@ -15,8 +15,8 @@ impl TotalOrder for Fraction {
     ghost before = { λ x y. nat_lt (x.top * y.bottom) (y.top * x.bottom) };
 
     ghost ranks = { record {
-      one_way = λ x y h. fractions_one_way x.top x.bottom y.top y.bottom h;
-      chain = λ x y z h k. fractions_chain x.top x.bottom y.top y.bottom z.top z.bottom y.positive h k;
+      one_way = λ x y h. below_one_way x.top x.bottom y.top y.bottom h;
+      chain = λ x y z h k. below_chain x.top x.bottom y.top y.bottom z.top z.bottom y.positive h k;
     } };
 
     fn precedes(&self, other: &Fraction) -> bool {

@@ -1,4 +1,4 @@
--- A proof, for the order of entries: they are ranked by finish tag and then by flow.
+-- Proofs, for the order of entries: they are ranked by finish tag and then by flow.
 use Rattle.std.specs.Cmp.{IsStrictWeakOrder}
 use Rattle.std.proofs.Common.{arith}
 use Rattle.std.proofs.lemmas.Bool.Decides.{nat_tests}
