@@ -3,9 +3,8 @@
 #![tactic(auto)]
 
 use crate::table_text::TableText;
+use input::read_table;
 use std::io;
-use std::io::Read;
-use wire::Table;
 use words::FaultText;
 
 mod table_text;
@@ -13,12 +12,7 @@ mod table_text;
 mod tests;
 
 fn main(rt: HostRuntime) -> io::Result<()> {
-    let mut input = Vec::new(rt.alloc());
-    let _ = rt
-        .stdin()
-        .take(Table::deciding_bytes())
-        .read_to_end(&mut input)?;
-    match Table::read(&input) {
+    match read_table(rt.alloc(), rt.stdin())? {
         Ok(table) => rt.print(TableText(table)),
         Err(fault) => rt.println(FaultText(fault)),
     }

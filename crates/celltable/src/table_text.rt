@@ -1,7 +1,7 @@
 use percent::tenths_of_percent;
 use std::fmt;
 use wire::{Line, Table};
-use words::KindText;
+use words::SetupText;
 
 /// What a table sets up, in lines for people.
 #[derive(Clone, Copy)]
@@ -10,8 +10,8 @@ pub struct TableText(pub Table);
 /// One flow in a line, each number below its heading.
 fn write_flow<W: fmt::Write>(
     f: &mut fmt::Formatter<W>,
-    flow: u8,
-    line: Line,
+    flow: usize,
+    line: &Line,
     total: u16,
 ) -> fmt::Result {
     let Line {
@@ -19,7 +19,7 @@ fn write_flow<W: fmt::Write>(
         delay_weight,
         lag_limit,
         lead_limit,
-    } = line;
+    } = *line;
     let tenths = tenths_of_percent(u32::from(weight), u32::from(total)).unwrap_or(0);
     let whole = tenths / 10;
     let rest = tenths % 10;
@@ -31,20 +31,13 @@ fn write_flow<W: fmt::Write>(
 
 impl fmt::Display for TableText {
     fn fmt<W: fmt::Write>(&self, f: &mut fmt::Formatter<W>) -> fmt::Result {
-        let table = self.0;
-        let kind = KindText(table.kind());
-        let lookahead = table.lookahead();
-        let flows = table.flow_count();
-        let total = table.total_weight();
+        let setup = SetupText(self.0);
         write!(
             f,
-            "kind          {kind}\nlookahead     {lookahead}\nflows         {flows}\ntotal weight  {total}\n\n"
+            "{setup}\nflow  weight  delay weight  lag limit  lead limit  share of slots\n"
         )?;
-        f.write_str("flow  weight  delay weight  lag limit  lead limit  share of slots\n")?;
-        for flow in 0..flows {
-            if let Some(line) = table.line(flow) {
-                write_flow(f, flow, line, total)?;
-            }
+        for (flow, line) in self.0.lines().iter().enumerate() {
+            write_flow(f, flow, line, self.0.total_weight())?;
         }
         Ok(())
     }

@@ -7,6 +7,9 @@ ghost use Rattle.fault.specs.Faults.{frame_told, header_told, line_told, record_
 ghost use Rattle.fault.specs.declared.HeaderFault.TheVariants.{Frame};
 ghost use Rattle.fault.specs.declared.LineFault.TheVariants.{Header};
 
+use std::fmt;
+use thiserror::Error;
+
 /// The layer of a table that a fault lies in.
 #[derive(Clone, Copy, PartialEq, Eq, Debug)]
 pub enum Layer {
@@ -18,8 +21,18 @@ pub enum Layer {
     Line,
 }
 
-/// What a refused table is told by: the number of the refusal, the first wrong byte (from 0, the length among them)
-/// and the layer.
+impl fmt::Display for Layer {
+    fn fmt<W: fmt::Write>(&self, f: &mut fmt::Formatter<W>) -> fmt::Result {
+        f.write_str(match self {
+            Layer::Frame => "frame",
+            Layer::Header => "header",
+            Layer::Line => "line",
+        })
+    }
+}
+
+/// What a refused table is told by, outside the code, where the faults below stand for it: the number of the refusal, the
+/// first wrong byte (from 0, the length among them) and the layer.
 #[derive(Clone, Copy, PartialEq, Eq, Debug)]
 pub struct Refusal {
     pub number: u8,
@@ -27,34 +40,54 @@ pub struct Refusal {
     pub layer: Layer,
 }
 
+impl fmt::Display for Refusal {
+    fn fmt<W: fmt::Write>(&self, f: &mut fmt::Formatter<W>) -> fmt::Result {
+        let Refusal {
+            number,
+            byte,
+            layer,
+        } = *self;
+        write!(f, "number {number}, byte {byte}, {layer}")
+    }
+}
+
 /// What is wrong with the frame of a table.
-#[derive(Clone, Copy, Debug)]
+#[derive(Clone, Copy, PartialEq, Eq, Debug, Error)]
 pub enum FrameFault {
     /// Fewer than six bytes, or a length that disagrees with them.
+    #[error("there are fewer than six bytes, or not as many as the length tells")]
     Length,
     /// A version other than 1.
+    #[error("the version is not 1")]
     Version,
 }
 
 /// What is wrong with a table up to its header.
-#[derive(Clone, Copy, Debug)]
+#[derive(Clone, Copy, PartialEq, Eq, Debug, Error)]
 pub enum HeaderFault {
+    #[error(transparent)]
     Frame(FrameFault),
     /// An unknown kind.
+    #[error("the kind is neither 1 (round robin) nor 2 (tags)")]
     Kind,
     /// A lookahead that the kind does not have.
+    #[error("the lookahead is not 0 to 16 (tags) or not 0 (round robin)")]
     Lookahead,
     /// A flow count that is not 1 to 16, or not the one that the length is for.
+    #[error("the flow count is not 1 to 16, or the length is not that of so many lines")]
     FlowCount,
 }
 
 /// What is wrong with a table.
-#[derive(Clone, Copy, Debug)]
+#[derive(Clone, Copy, PartialEq, Eq, Debug, Error)]
 pub enum LineFault {
+    #[error(transparent)]
     Header(HeaderFault),
     /// The weight of this flow.
+    #[error("the weight of flow {0} is not 1 to 16")]
     Weight(u8),
     /// The delay weight of this flow.
+    #[error("the delay weight of flow {0} is not 1 to 16 (tags) or not 0 (round robin)")]
     DelayWeight(u8),
 }
 
@@ -74,6 +107,7 @@ impl From<HeaderFault> for LineFault {
     }
 }
 
+// A method and no `From`: a refusal is told of a fault, and is not the fault in another type.
 impl FrameFault {
     /// Number, byte and layer.
     pub(crate) fn refusal(self) -> Refusal
@@ -129,18 +163,21 @@ impl LineFault {
 }
 
 /// What is wrong with a record.
-#[derive(Clone, Copy, Debug)]
+#[derive(Clone, Copy, PartialEq, Eq, Debug, Error)]
 pub enum RecordFault {
     /// Not twelve bytes, or a length other than 10.
+    #[error("there are not twelve bytes, or the length is not 10")]
     Length,
     /// A version other than 1.
+    #[error("the version is not 1")]
     Version,
     /// Any other field, or fields that do not go together.
+    #[error("a field is out of its range, or fields do not go together")]
     Field,
 }
 
 impl RecordFault {
-    /// The number of the refusal.
+    /// The number of the refusal, for whoever is told of it: in the code the enum stands for it.
     pub fn number(self) -> u8
         ensures { result ≡ record_number self }
     {
@@ -153,14 +190,15 @@ impl RecordFault {
 }
 
 /// Why nothing was written.
-#[derive(Clone, Copy, Debug)]
+#[derive(Clone, Copy, PartialEq, Eq, Debug, Error)]
 pub enum WriteFault {
     /// Too few bytes from the place on, or a place past the end.
+    #[error("there are too few bytes from the place on, or it lies past the end")]
     NoRoom,
 }
 
 impl WriteFault {
-    /// The number of the refusal.
+    /// The number of the refusal, for whoever is told of it: in the code the enum stands for it.
     pub fn number(self) -> u8
         ensures { result ≡ write_number self }
     {

@@ -1,30 +1,60 @@
-ghost use Rattle.std.specs.Prelude.{◌≡◌};
+ghost use Rattle.std.specs.Prelude.{◌≡◌, ℕ, List};
 ghost use Rattle.octets.specs.BigEndian.{be_number, be_bytes};
 
-/// The number that two bytes hold.
-pub fn u16_of(bytes: [u8; 2]) -> u16
-    ensures { result ≡ be_number bytes }
-{
-    u16::from_be_bytes(bytes)
+/// A number that a format has in a fixed count of bytes, the highest first.
+pub trait BigEndian {
+    /// As many bytes as the number has.
+    type Bytes;
+
+    /// How many they are.
+    ghost width: { ℕ };
+
+    ghost listed: { Self.Bytes → List ℕ };
+
+    /// The number, whatever its type.
+    ghost number: { Self → ℕ };
+
+    /// The number that these bytes hold.
+    fn from_bytes(bytes: Self::Bytes) -> Self
+        ensures { number result ≡ be_number (listed bytes) };
+
+    /// The bytes that hold the number.
+    fn to_bytes(self) -> Self::Bytes
+        ensures { listed result ≡ be_bytes width (number self) };
 }
 
-/// The two bytes that hold a number.
-pub fn u16_bytes(n: u16) -> [u8; 2]
-    ensures { result ≡ be_bytes 2 n }
-{
-    n.to_be_bytes()
+impl BigEndian for u16 {
+    type Bytes = [u8; 2];
+
+    ghost width = { 2 };
+
+    ghost listed = { λ bytes. bytes };
+
+    ghost number = { λ n. n };
+
+    fn from_bytes(bytes: [u8; 2]) -> u16 {
+        u16::from_be_bytes(bytes)
+    }
+
+    fn to_bytes(self) -> [u8; 2] {
+        u16::to_be_bytes(self)
+    }
 }
 
-/// The number that four bytes hold.
-pub fn u32_of(bytes: [u8; 4]) -> u32
-    ensures { result ≡ be_number bytes }
-{
-    u32::from_be_bytes(bytes)
-}
+impl BigEndian for u32 {
+    type Bytes = [u8; 4];
 
-/// The four bytes that hold a number.
-pub fn u32_bytes(number: u32) -> [u8; 4]
-    ensures { result ≡ be_bytes 4 number }
-{
-    number.to_be_bytes()
+    ghost width = { 4 };
+
+    ghost listed = { λ bytes. bytes };
+
+    ghost number = { λ n. n };
+
+    fn from_bytes(bytes: [u8; 4]) -> u32 {
+        u32::from_be_bytes(bytes)
+    }
+
+    fn to_bytes(self) -> [u8; 4] {
+        u32::to_be_bytes(self)
+    }
 }

@@ -1,4 +1,5 @@
-ghost use Rattle.octets.specs.Output.{Placed};
+ghost use Rattle.std.specs.Prelude.{◌≡◌, ◌≤◌, ◌++◌, length, drop};
+ghost use Rattle.octets.specs.Output.{Placed, Written};
 
 use fault::WriteFault;
 
@@ -6,8 +7,24 @@ use fault::WriteFault;
 pub fn next_place(len: usize, at: usize, size: usize) -> Result<usize, WriteFault>
     ensures { Placed len at size result }
 {
-    if at > len || len - at < size {
-        return Err(WriteFault::NoRoom);
-    }
-    Ok(at + size)
+    at.checked_add(size)
+        .filter(|next| *next <= len)
+        .ok_or(WriteFault::NoRoom)
+}
+
+/// Puts bytes at the front of `out`.
+fn put(bytes: &[u8], out: &mut [u8])
+    requires { length bytes.now ≤ length out.old }
+    ensures { out.new ≡ bytes.now ++ drop (length bytes.now) out.old }
+{
+    out[..bytes.len()].copy_from_slice(bytes);
+}
+
+/// Writes bytes into `out` from `at` on, and tells the next place.
+pub fn write(bytes: &[u8], out: &mut [u8], at: usize) -> Result<usize, WriteFault>
+    ensures { Written out.old at bytes.now out.new result }
+{
+    let next = next_place(out.len(), at, bytes.len())?;
+    put(bytes, &mut out[at..]);
+    Ok(next)
 }

@@ -5,5 +5,5 @@ ghost use Rattle.octets.specs.Ranges.{one_to_sixteen};
 pub fn one_to_sixteen(n: u8) -> bool
     ensures { result ≡ one_to_sixteen n }
 {
-    1 <= n && n <= 16
+    (1..=16).contains(&n)
 }

@@ -11,7 +11,7 @@ impl OneFlow {
     pub fn new() -> OneFlow
         ensures { one_flow_held result ≡ false }
     {
-        OneFlow { due: false }
+        OneFlow::default()
     }
 }
 
@@ -29,11 +29,11 @@ impl Reference for OneFlow {
     }
 
     fn weight(&self, flow: u8) -> Option<u32> {
-        if flow == 0 { Some(1) } else { None }
+        (flow == 0).then_some(1)
     }
 
     fn allowance(&self, flow: u8) -> Option<u32> {
-        if flow == 0 { Some(0) } else { None }
+        (flow == 0).then_some(0)
     }
 
     fn total_weight(&self) -> u32 {
@@ -57,6 +57,6 @@ impl Reference for OneFlow {
     }
 
     fn turn(&mut self) -> Option<u8> {
-        if self.due { Some(0) } else { None }
+        self.due.then_some(0)
     }
 }

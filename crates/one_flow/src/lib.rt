@@ -8,7 +8,7 @@ mod calls;
 mod tests;
 
 /// A reference over one flow.
-#[derive(Clone, Copy)]
+#[derive(Clone, Copy, Default)]
 pub struct OneFlow {
     due: bool,
 }

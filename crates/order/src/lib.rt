@@ -22,25 +22,13 @@ pub trait TotalOrder {
     ghost ranks: { IsStrictWeakOrder before };
 }
 
-/// Whether an entry takes over from the least so far; on a tie it does not.
-fn takes_over<T: TotalOrder>(entry: &T, least: &T) -> bool
-    ensures { result ≡ T.before entry.now least.now }
-{
-    entry.precedes(least)
-}
-
 /// The place of the least entry, the lowest of those that tie; none in an empty list.
 pub fn least<T: TotalOrder>(entries: &[T]) -> Option<usize>
     ensures { LeastAt T.before entries.now result }
 {
-    if entries.is_empty() {
-        return None;
-    }
-    let mut best = 0;
-    for i in 1..entries.len() {
-        if takes_over(&entries[i], &entries[best]) {
-            best = i;
-        }
-    }
-    Some(best)
+    entries
+        .iter()
+        .enumerate()
+        .reduce(|best, next| if next.1.precedes(best.1) { next } else { best })
+        .map(|(place, _)| place)
 }

@@ -8,9 +8,6 @@ ghost use Rattle.percent.specs.Rounding.{Nearest};
 pub fn tenths_of_percent(part: u32, whole: u32) -> Option<u64>
     ensures { Nearest part whole result }
 {
-    if whole == 0 {
-        return None;
-    }
     let whole = u64::from(whole);
-    Some((2000 * u64::from(part) + whole) / (2 * whole))
+    (2000 * u64::from(part) + whole).checked_div(2 * whole)
 }

@@ -7,6 +7,7 @@ ghost use Rattle.record.specs.Pairs.{flows_fit, pair_fits};
 
 use crate::taking::{Charge, Taking};
 
+mod layout;
 mod making;
 mod questions;
 mod read;
@@ -14,7 +15,7 @@ pub mod taking;
 mod write;
 
 /// The record of one slot, which keeps every rule of its format.
-#[derive(Clone, Copy)]
+#[derive(Clone, Copy, PartialEq, Eq, Debug)]
 pub struct Record {
     marked: Option<u8>,
     taking: Taking,

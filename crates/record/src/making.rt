@@ -1,9 +1,10 @@
 ghost use Rattle.std.specs.Prelude.{◌≡◌};
-ghost use Rattle.record.specs.Pairs.{flow_fits, marks, sender_fits, flows_fit, pair_fits};
+ghost use Rattle.record.specs.Pairs.{flow_fits, sender_fits, flows_fit, pair_fits};
 ghost use Rattle.record.specs.Refusals.{Made};
 
 use crate::Record;
-use crate::taking::{Charge, Taking};
+use crate::taking::Charge::{self, Forfeited, LagUp, LeadDown, Nothing};
+use crate::taking::Taking::{self, Free, Idle, LagRepaid, LeadCharged, Own};
 use fault::RecordFault;
 use octets::range::one_to_sixteen;
 
@@ -14,20 +15,7 @@ const SLOTS: u32 = 1_000_000_000;
 fn flow_fits(flow_count: u8, flow: Option<u8>) -> bool
     ensures { result ≡ flow_fits flow_count flow }
 {
-    match flow {
-        None => true,
-        Some(flow) => flow < flow_count,
-    }
-}
-
-/// Whether the slot marks this flow.
-fn marks(marked: Option<u8>, flow: u8) -> bool
-    ensures { result ≡ marks marked flow }
-{
-    match marked {
-        None => false,
-        Some(marked) => flow == marked,
-    }
+    flow.is_none_or(|flow| flow < flow_count)
 }
 
 /// Whether the sender is the marked flow where it has to be, and another one where it has not.
@@ -35,11 +23,9 @@ fn sender_fits(marked: Option<u8>, taking: Taking) -> bool
     ensures { result ≡ sender_fits marked taking }
 {
     match taking {
-        Taking::Idle => true,
-        Taking::Own(flow) => marks(marked, flow),
-        Taking::LagRepaid(flow) | Taking::LeadCharged(flow) | Taking::Free(flow) => !marks(
-            marked, flow,
-        ),
+        Idle => true,
+        Own(flow) => marked == Some(flow),
+        LagRepaid(flow) | LeadCharged(flow) | Free(flow) => marked != Some(flow),
     }
 }
 
@@ -56,16 +42,14 @@ fn flows_fit(flow_count: u8, marked: Option<u8>, taking: Taking) -> bool
 fn pair_fits(marked: Option<u8>, taking: Taking, charge: Charge) -> bool
     ensures { result ≡ pair_fits marked taking charge }
 {
-    match (marked, taking, charge) {
-        (None, Taking::Idle | Taking::LagRepaid(_) | Taking::Free(_), Charge::Nothing) => true,
-        (Some(_), Taking::Idle, Charge::LeadDown | Charge::Forfeited) => true,
-        (Some(_), Taking::Own(_), Charge::Nothing) => true,
-        (Some(_), Taking::LagRepaid(_), Charge::LeadDown | Charge::LagUp | Charge::Forfeited) =>
-            true,
-        (Some(_), Taking::LeadCharged(_), Charge::LeadDown | Charge::LagUp) => true,
-        (Some(_), Taking::Free(_), Charge::LeadDown | Charge::Forfeited) => true,
-        _ => false,
-    }
+    matches!(
+        (marked, taking, charge),
+        (None, Idle | LagRepaid(_) | Free(_), Nothing)
+            | (Some(_), Idle | Free(_), LeadDown | Forfeited)
+            | (Some(_), Own(_), Nothing)
+            | (Some(_), LagRepaid(_), LeadDown | LagUp | Forfeited)
+            | (Some(_), LeadCharged(_), LeadDown | LagUp)
+    )
 }
 
 impl Record {
@@ -79,10 +63,11 @@ impl Record {
     ) -> Result<Record, RecordFault>
         ensures { Made marked taking charge flow_count slot result }
     {
-        if !one_to_sixteen(flow_count) || slot >= SLOTS {
-            return Err(RecordFault::Field);
-        }
-        if !flows_fit(flow_count, marked, taking) || !pair_fits(marked, taking, charge) {
+        let fits = one_to_sixteen(flow_count)
+            && slot < SLOTS
+            && flows_fit(flow_count, marked, taking)
+            && pair_fits(marked, taking, charge);
+        if !fits {
             return Err(RecordFault::Field);
         }
         Ok(Record {

@@ -3,16 +3,17 @@ ghost use Rattle.record.specs.Layout.{flow_named, record_bytes};
 ghost use Rattle.record.specs.Refusals.{RecordRead};
 
 use crate::Record;
+use crate::layout::{LENGTH, NO_FLOW, VERSION};
 use crate::taking::{Charge, Taking};
 use fault::RecordFault;
-use octets::big_endian::{u16_of, u32_of};
+use octets::big_endian::BigEndian;
 
-/// The flow that a byte names; 255 stands for no flow.
+/// The flow that a byte names.
 fn flow_named(byte: u8) -> Option<u8>
     ensures { result ≡ flow_named byte }
 {
     match byte {
-        255 => None,
+        NO_FLOW => None,
         flow => Some(flow),
     }
 }
@@ -21,20 +22,33 @@ fn flow_named(byte: u8) -> Option<u8>
 fn decoded(bytes: &[u8]) -> Result<Record, RecordFault>
     ensures { RecordRead bytes.now result }
 {
-    if bytes.len() != 12 || u16_of([bytes[0], bytes[1]]) != 10 {
+    let [
+        high,
+        low,
+        version,
+        marked,
+        sender,
+        taking,
+        charge,
+        flow_count,
+        a,
+        b,
+        c,
+        d,
+    ] = *bytes
+    else {
+        return Err(RecordFault::Length);
+    };
+    if u16::from_bytes([high, low]) != LENGTH {
         return Err(RecordFault::Length);
     }
-    if bytes[2] != 1 {
+    if version != VERSION {
         return Err(RecordFault::Version);
     }
-    let Some(taking) = Taking::numbered(bytes[5], flow_named(bytes[4])) else {
-        return Err(RecordFault::Field);
-    };
-    let Some(charge) = Charge::numbered(bytes[6]) else {
-        return Err(RecordFault::Field);
-    };
-    let slot = u32_of([bytes[8], bytes[9], bytes[10], bytes[11]]);
-    Record::new(flow_named(bytes[3]), taking, charge, bytes[7], slot)
+    let taking = Taking::try_from((taking, flow_named(sender)))?;
+    let charge = Charge::try_from(charge)?;
+    let slot = u32::from_bytes([a, b, c, d]);
+    Record::new(flow_named(marked), taking, charge, flow_count, slot)
 }
 
 impl Record {

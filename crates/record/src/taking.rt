@@ -1,8 +1,11 @@
-ghost use Rattle.std.specs.Prelude.{◌≡◌};
+ghost use Rattle.std.specs.Prelude.{◌≡◌, ok_or};
 ghost use Rattle.record.specs.Pairs.{taking_number, sender_of, taking_of, charge_number, charge_numbered};
+ghost use Rattle.fault.specs.declared.RecordFault.TheVariants.{Field};
+
+use fault::RecordFault;
 
 /// Who sends in a slot, and on what account.
-#[derive(Clone, Copy)]
+#[derive(Clone, Copy, PartialEq, Eq, Debug)]
 pub enum Taking {
     /// Nobody sends.
     Idle,
@@ -16,83 +19,88 @@ pub enum Taking {
     Free(u8),
 }
 
-/// What the marked flow is charged.
-#[derive(Clone, Copy)]
+/// What the marked flow is charged, with its number in a record.
+#[derive(Clone, Copy, PartialEq, Eq, Debug)]
 pub enum Charge {
-    Nothing,
+    Nothing = 0,
     /// It leads by one less.
-    LeadDown,
+    LeadDown = 1,
     /// It lags by one more.
-    LagUp,
+    LagUp = 2,
     /// Its turn is lost.
-    Forfeited,
+    Forfeited = 3,
 }
 
 impl Taking {
-    /// The number that stands for the taking in a record.
-    pub(crate) fn number(self) -> u8
-        ensures { result ≡ taking_number self }
-    {
-        match self {
-            Taking::Idle => 0,
-            Taking::Own(_) => 1,
-            Taking::LagRepaid(_) => 2,
-            Taking::LeadCharged(_) => 3,
-            Taking::Free(_) => 4,
-        }
-    }
-
     /// The flow that sends; none where the slot is idle.
     pub fn sender(self) -> Option<u8>
         ensures { result ≡ sender_of self }
     {
         match self {
             Taking::Idle => None,
-            Taking::Own(flow) => Some(flow),
-            Taking::LagRepaid(flow) => Some(flow),
-            Taking::LeadCharged(flow) => Some(flow),
-            Taking::Free(flow) => Some(flow),
-        }
-    }
-
-    /// The taking that has this number and this sender.
-    pub(crate) fn numbered(number: u8, sender: Option<u8>) -> Option<Taking>
-        ensures { result ≡ taking_of number sender }
-    {
-        match (number, sender) {
-            (0, None) => Some(Taking::Idle),
-            (1, Some(flow)) => Some(Taking::Own(flow)),
-            (2, Some(flow)) => Some(Taking::LagRepaid(flow)),
-            (3, Some(flow)) => Some(Taking::LeadCharged(flow)),
-            (4, Some(flow)) => Some(Taking::Free(flow)),
-            _ => None,
+            Taking::Own(flow)
+            | Taking::LagRepaid(flow)
+            | Taking::LeadCharged(flow)
+            | Taking::Free(flow) => Some(flow),
         }
     }
 }
 
-impl Charge {
-    /// The number that stands for the charge in a record.
-    pub(crate) fn number(self) -> u8
-        ensures { result ≡ charge_number self }
-    {
-        match self {
-            Charge::Nothing => 0,
-            Charge::LeadDown => 1,
-            Charge::LagUp => 2,
-            Charge::Forfeited => 3,
+/// The number that stands for the taking in a record, and the sender.
+impl From<Taking> for (u8, Option<u8>) {
+    ghost from_gives = { λ taking pair. pair ≡ (taking_number taking, sender_of taking) };
+
+    fn from(taking: Taking) -> (u8, Option<u8>) {
+        match taking {
+            Taking::Idle => (0, None),
+            Taking::Own(flow) => (1, Some(flow)),
+            Taking::LagRepaid(flow) => (2, Some(flow)),
+            Taking::LeadCharged(flow) => (3, Some(flow)),
+            Taking::Free(flow) => (4, Some(flow)),
         }
     }
+}
 
-    /// The charge that a number stands for.
-    pub(crate) fn numbered(number: u8) -> Option<Charge>
-        ensures { result ≡ charge_numbered number }
-    {
+/// The taking that has this number and this sender.
+impl TryFrom<(u8, Option<u8>)> for Taking {
+    type Error = RecordFault;
+
+    ghost try_from_gives = { λ pair result. result ≡ ok_or (taking_of pair.0 pair.1) Field };
+
+    fn try_from(pair: (u8, Option<u8>)) -> Result<Taking, RecordFault> {
+        match pair {
+            (0, None) => Ok(Taking::Idle),
+            (1, Some(flow)) => Ok(Taking::Own(flow)),
+            (2, Some(flow)) => Ok(Taking::LagRepaid(flow)),
+            (3, Some(flow)) => Ok(Taking::LeadCharged(flow)),
+            (4, Some(flow)) => Ok(Taking::Free(flow)),
+            _ => Err(RecordFault::Field),
+        }
+    }
+}
+
+/// The number that stands for the charge in a record.
+impl From<Charge> for u8 {
+    ghost from_gives = { λ charge number. number ≡ charge_number charge };
+
+    fn from(charge: Charge) -> u8 {
+        charge as u8
+    }
+}
+
+/// The charge that a number stands for.
+impl TryFrom<u8> for Charge {
+    type Error = RecordFault;
+
+    ghost try_from_gives = { λ number result. result ≡ ok_or (charge_numbered number) Field };
+
+    fn try_from(number: u8) -> Result<Charge, RecordFault> {
         match number {
-            0 => Some(Charge::Nothing),
-            1 => Some(Charge::LeadDown),
-            2 => Some(Charge::LagUp),
-            3 => Some(Charge::Forfeited),
-            _ => None,
+            0 => Ok(Charge::Nothing),
+            1 => Ok(Charge::LeadDown),
+            2 => Ok(Charge::LagUp),
+            3 => Ok(Charge::Forfeited),
+            _ => Err(RecordFault::Field),
         }
     }
 }

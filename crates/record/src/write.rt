@@ -1,40 +1,29 @@
-ghost use Rattle.std.specs.Prelude.{◌≡◌, ◌≤◌, ◌++◌, length, drop};
+ghost use Rattle.std.specs.Prelude.{◌≡◌};
 ghost use Rattle.octets.specs.Output.{Written};
-ghost use Rattle.record.specs.Layout.{flow_byte, record_bytes};
+ghost use Rattle.record.specs.Layout.{record_bytes};
 
 use crate::Record;
+use crate::layout::{LENGTH, NO_FLOW, VERSION};
 use fault::WriteFault;
-use octets::big_endian::u32_bytes;
-use octets::output::next_place;
-
-/// The byte of a flow; 255 stands for no flow.
-fn flow_byte(flow: Option<u8>) -> u8
-    ensures { result ≡ flow_byte flow }
-{
-    match flow {
-        None => 255,
-        Some(flow) => flow,
-    }
-}
+use octets::big_endian::BigEndian;
+use octets::output;
 
 impl Record {
     /// The twelve bytes of the record.
     pub fn bytes(&self) -> [u8; 12]
         ensures { result ≡ record_bytes self.now }
     {
-        let marked = flow_byte(self.marked);
-        let sender = flow_byte(self.taking.sender());
-        let taking = self.taking.number();
-        let charge = self.charge.number();
-        let [a, b, c, d] = u32_bytes(self.slot);
+        let [high, low] = LENGTH.to_bytes();
+        let (taking, sender): (u8, Option<u8>) = self.taking.into();
+        let [a, b, c, d] = self.slot.to_bytes();
         [
-            0,
-            10,
-            1,
-            marked,
-            sender,
+            high,
+            low,
+            VERSION,
+            self.marked.unwrap_or(NO_FLOW),
+            sender.unwrap_or(NO_FLOW),
             taking,
-            charge,
+            self.charge.into(),
             self.flow_count,
             a,
             b,
@@ -43,21 +32,10 @@ impl Record {
         ]
     }
 
-    /// Writes the record at the front of `out`.
-    fn put(&self, out: &mut [u8])
-        requires { 12 ≤ length out.old }
-        ensures { out.new ≡ record_bytes self.now ++ drop 12 out.old }
-    {
-        let bytes = self.bytes();
-        out[0..12].copy_from_slice(&bytes);
-    }
-
     /// Writes the record into `out` from `at` on, and tells the next place.
     pub fn write(&self, out: &mut [u8], at: usize) -> Result<usize, WriteFault>
         ensures { Written out.old at (record_bytes self.now) out.new result }
     {
-        let next = next_place(out.len(), at, 12)?;
-        self.put(&mut out[at..]);
-        Ok(next)
+        output::write(&self.bytes(), out, at)
     }
 }

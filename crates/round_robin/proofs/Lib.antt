@@ -1,1 +1,3 @@
 pub mod InTurn
+pub mod Searches
+pub mod PutBack

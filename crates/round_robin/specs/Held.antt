@@ -1,20 +1,19 @@
 -- Proofs, for the laws and the code: the array of a round robin, and what it holds.
-use Rattle.std.specs.Prelude.{◌≡◌, ℕ, ◌+◌, ◌-◌, ◌*◌, ◌<◌, ◌≤◌, Bool, true, false, List, [], ◌∷◌, ◌++◌, map, length, take, drop, set, Some, None, nat_lt, slice_index_or, slice_set, refl}
+use Rattle.std.specs.Prelude.{◌≡◌, ℕ, ◌+◌, ◌-◌, ◌*◌, ◌%◌, ◌<◌, ◌≤◌, Bool, true, false, List, [], ◌∷◌, ◌++◌, map, length, take, drop, set, Some, None, nat_lt, slice_index_or, slice_set, refl}
 use Rattle.std.proofs.Common.{sym, ap, subst, ◌∙◌, ⊎_elim, arith, le-ltb}
-use Rattle.std.specs.List.{AllByRecursion}
-use Rattle.std.proofs.lemmas.List.{get_or-take, get_or_past, get_or-map, get_or-set_same, get_or-set_other}
-use Rattle.std.proofs.lemmas.Bool.{cases_lt, cases_eq, lt-ltb}
+use Rattle.std.proofs.lemmas.List.{get_or-take, get_or_past, get_or-map, take-map, get_or-set_same, get_or-set_other, take_all, drop_all, append-nil}
+use Rattle.std.proofs.lemmas.Bool.{cases_lt, cases_eq, and_parts, lt-ltb, ltb-true}
 use Rattle.table.specs.Lines.{no_line, weights_sum}
 use Rattle.table.specs.Layout.{flow_lines}
 use Rattle.table.specs.declared.line.Line.{Line}
 use Rattle.table.specs.declared.Table.{Table}
 use Rattle.table.proofs.InRange.{flow_lines_length, weight_in_range}
 use Rattle.reference.specs.Flows.{sum, others, around}
-use Rattle.reference.specs.Meaning.{SameNumbers, told}
-use Rattle.reference.proofs.Fronts.{front_length, front_all, front_each, back_front, back_sized}
+use Rattle.reference.specs.Meaning.{told}
+use Rattle.reference.proofs.Fronts.{front_length, front_all}
 use Rattle.reference.proofs.Searches.{around_passes}
 use Rattle.reference.proofs.Steps.{take_set}
-use Rattle.reference.proofs.Totals.{sum_split, sum_kept}
+use Rattle.reference.proofs.Totals.{sum_split, sum_kept, sum_map}
 use Rattle.round_robin.specs.declared.quota.Quota.{Quota}
 use Rattle.round_robin.specs.declared.RoundRobin.{RoundRobin}
 use Rattle.round_robin.specs.RoundRobin.{
@@ -28,7 +27,11 @@ use Rattle.round_robin.specs.RoundRobin.{
   ready,
   fresh,
   switched,
+  spent,
+  unused,
   renewed,
+  chosen,
+  after_mark,
   after_turn,
   switch,
   Kept,
@@ -37,8 +40,7 @@ use Rattle.round_robin.specs.RoundRobin.{
   round_robin,
 }
 use Rattle.round_robin.specs.View.{robin_held}
-use Rattle.round_robin.specs.Rounds.{quota_kept, renewed_kept}
-use Rattle.round_robin.specs.Laws.{robin_lawful, switch_past}
+use Rattle.round_robin.specs.Laws.{switch_past}
 
 -- What is held, from what the struct keeps.
 
@@ -144,55 +146,72 @@ module _ (b : Bool) (r : RoundRobin) (f : ℕ) where
   pub switch_outside : r.count ≤ f → robin_held r ≡ switch b (robin_held r) f
   switch_outside h = sym (switch_past b (robin_held r) f (omega (arith, held_length r)))
 
--- A turn, whose quotas ms and pointer p are put back into the array.
-
-module _ (r : RoundRobin) (ms : List Quota) (p : ℕ) (e : pointing_at p ms ≡ after_turn (robin_held r)) where
-  turn_sound : Sound (pointing_at p ms)
-  turn_sound = subst Sound (sym e) (robin_lawful.turn_sound (robin_held r) (held_sound r))
-
-  turn_numbers : SameNumbers round_robin (robin_held r) (pointing_at p ms)
-  turn_numbers =
-      subst (SameNumbers round_robin (robin_held r)) (sym e)
-      (robin_lawful.turn_keeps_numbers (robin_held r) (held_sound r))
-
-  turn_length : length ms ≡ r.count
-  turn_length = turn_numbers.flows ∙ held_length r
-
-  turn_front : take r.count (ms ++ drop r.count r.quotas) ≡ ms
-  turn_front = back_front r.count ms r.quotas r.few r.sized turn_length
-
-  pub turn_sized : length (ms ++ drop r.count r.quotas) ≡ 16
-  turn_sized = back_sized r.count ms r.quotas r.few r.sized turn_length
-
-  pub turn_points : p < r.count
-  turn_points = omega (arith, turn_length, turn_sound.points)
-
-  pub turn_kept : KeptBelow (ms ++ drop r.count r.quotas) r.count
-  turn_kept =
-      front_each (ms ++ drop r.count r.quotas) r.count turn_sized r.few Kept no_quota
-      (subst (AllByRecursion Kept) (sym turn_front) turn_sound.kept)
-
-  pub turn_summed : r.total ≡ sum weight_of (take r.count (ms ++ drop r.count r.quotas))
-  turn_summed = r.summed ∙ sym (ap (sum weight_of) turn_front ∙ turn_numbers.total)
-
-  pub turn_held : pointing_at p (take r.count (ms ++ drop r.count r.quotas)) ≡ after_turn (robin_held r)
-  turn_held = ap (pointing_at p) turn_front ∙ e
-
 -- The flow that a search finds.
 
 pub found_below : (p : ℕ) (ms : List Quota) (f : ℕ) → Some f ≡ around ready p ms → f < length ms
 found_below p ms f e = (around_passes ready no_quota p ms f (sym e)).0
 
-pub found_used :
-    (h : Robin) (ms : List Quota) (f : ℕ)
-    → Sound h
-    → ms ≡ renewed h.quotas
-    → Some f ≡ around ready h.pointer ms
-    → (quota_at ms f).used ≤ 16
-found_used h ms f s q e =
-    let k =
-    quota_kept ms f (subst (AllByRecursion Kept) (sym q) (renewed_kept h.quotas s.kept)) (found_below h.pointer ms f e) in
-    omega (arith, k.1, k.2)
+-- The beginning of a round, which resets every place of the array.
+
+module _ (r : RoundRobin) where
+  pub reset_kept : KeptBelow (map unused r.quotas) r.count
+  reset_kept k l =
+      let q : quota_at (map unused r.quotas) k ≡ unused (quota_at r.quotas k) =
+      get_or-map unused r.quotas k no_quota no_quota (omega (arith, r.sized, r.few)) in
+      let kept = r.kept k l in
+      subst Kept (sym q) (kept.0, kept.1, omega arith)
+
+  pub reset_all :
+      (ms : List Quota) (i : ℕ) → 16 ≤ i
+      → ms ≡ map unused (take i r.quotas) ++ drop i r.quotas
+      → ms ≡ map unused r.quotas
+  reset_all ms i h e =
+      let all = take_all i r.quotas (omega (arith, r.sized)) in
+      let none = drop_all i r.quotas (omega (arith, r.sized)) in
+      let end = append-nil (map unused r.quotas) in
+      cc
+
+  pub reset_front : take r.count (map unused r.quotas) ≡ map unused (take r.count r.quotas)
+  reset_front = take-map unused r.count r.quotas
+
+  pub reset_summed : r.total ≡ sum weight_of (take r.count (map unused r.quotas))
+  reset_summed =
+      r.summed ∙ sym (ap (sum weight_of) reset_front ∙ sum_map weight_of no_quota unused (take r.count r.quotas))
+
+-- A mark of flow f, which a search found.
+
+module _ (r : RoundRobin) (f : ℕ) (e : Some f ≡ around ready r.pointer (take r.count r.quotas)) where
+  pub mark_inside : f < r.count
+  mark_inside = omega (arith, held_length r, found_below r.pointer (take r.count r.quotas) f e)
+
+  mark_used : (quota_at r.quotas f).used < (quota_at r.quotas f).weight
+  mark_used =
+      let q = quota_at r.quotas f in
+      let ready_there : ready q ≡ true =
+      ap ready (sym (held_at r f mark_inside))
+      ∙ (around_passes ready no_quota r.pointer (take r.count r.quotas) f (sym e)).1 in
+      ltb-true _ _ (and_parts q.due (nat_lt q.used q.weight) ready_there).1
+
+  pub mark_kept : Kept (spent (quota_at r.quotas f))
+  mark_kept = let kept = r.kept f mark_inside in (kept.0, kept.1, omega (arith, mark_used))
+
+  pub mark_held :
+      pointing_at ((f + 1) % r.count) (take r.count (slice_set r.quotas f (spent (quota_at r.quotas f))))
+      ≡ after_mark (take r.count r.quotas) r.pointer (Some f)
+  mark_held =
+      let front = take_set r.count r.quotas f (spent (quota_at r.quotas f)) in
+      let at = held_at r f mark_inside in
+      let long = held_length r in
+      cc
+
+-- A turn: what is held once a round has begun, if one does, is k.
+
+module _ (h k : Robin) (e : k ≡ pointing_at h.pointer (renewed h.quotas)) where
+  pub turn_marks : around ready k.pointer k.quotas ≡ chosen h
+  turn_marks = ap (λ k. around ready k.pointer k.quotas) e
+
+  pub turn_leaves : after_mark k.quotas k.pointer (around ready k.pointer k.quotas) ≡ after_turn h
+  turn_leaves = ap (λ k. after_mark k.quotas k.pointer (around ready k.pointer k.quotas)) e
 
 -- The start, from a table.
 

@@ -50,6 +50,19 @@ module _ (qs : List Quota) where
       subst P r b)
       (cases_Bool (some is_due qs && not (some ready qs)))
 
+  pub renewed_anew : some is_due qs ≡ true → some ready qs ≡ false → renewed qs ≡ map unused qs
+  renewed_anew d n = rw (d, n)
+
+  pub renewed_none_due : some is_due qs ≡ false → renewed qs ≡ qs
+  renewed_none_due d = rw d
+
+  pub renewed_some_ready : some ready qs ≡ true → renewed qs ≡ qs
+  renewed_some_ready n =
+      ⊎_elim
+      (λ (d : some is_due qs ≡ true). rw (d, n))
+      renewed_none_due
+      (cases_Bool (some is_due qs))
+
   pub renewed_length : length (renewed qs) ≡ length qs
   renewed_length = renewed_cases (λ m. length m ≡ length qs) (λ _ _. simp length-map) refl
 

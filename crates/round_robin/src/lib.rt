@@ -16,6 +16,7 @@ mod turns;
 /// Round robin over the flows of a table.
 #[derive(Clone, Copy)]
 pub struct RoundRobin {
+    // An array of 16 beside its count: the type is Copy, and there is no heap in it. An ArrayVec is not Copy.
     quotas: [Quota; 16],
     count: u8,
     pointer: u8,

@@ -4,7 +4,6 @@ ghost use Rattle.round_robin.specs.Laws.{robin_lawful};
 ghost use Rattle.round_robin.specs.Held.{held_sound};
 
 use crate::RoundRobin;
-use crate::turns::take_turn;
 use reference::Reference;
 
 impl Reference for RoundRobin {
@@ -21,14 +20,12 @@ impl Reference for RoundRobin {
     }
 
     fn weight(&self, flow: u8) -> Option<u32> {
-        let quota = self.quota(flow)?;
-        Some(u32::from(quota.weight))
+        Some(u32::from(self.quota(flow)?.weight))
     }
 
     fn allowance(&self, flow: u8) -> Option<u32> {
-        let quota = self.quota(flow)?;
-        let weight = u32::from(quota.weight);
-        let rest = u32::from(self.total) - weight;
+        let weight = u32::from(self.quota(flow)?.weight);
+        let rest = self.total_weight() - weight;
         Some(2 * weight * rest)
     }
 
@@ -37,10 +34,7 @@ impl Reference for RoundRobin {
     }
 
     fn is_due(&self, flow: u8) -> bool {
-        match self.quota(flow) {
-            Some(quota) => quota.due,
-            None => false,
-        }
+        self.quota(flow).is_some_and(|quota| quota.due)
     }
 
     fn enter(&mut self, flow: u8) {
@@ -52,10 +46,10 @@ impl Reference for RoundRobin {
     }
 
     fn turn(&mut self) -> Option<u8> {
-        let mut quotas = self.quotas;
-        let (mark, pointer) = take_turn(&mut quotas[..self.count as usize], self.pointer);
-        self.quotas = quotas;
-        self.pointer = pointer;
-        mark
+        self.renew();
+        let flow = self.next_ready()?;
+        self.quotas[usize::from(flow)].used += 1;
+        self.pointer = (flow + 1) % self.count;
+        Some(flow)
     }
 }

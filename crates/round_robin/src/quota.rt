@@ -1,7 +1,37 @@
+ghost use Rattle.std.specs.Prelude.{◌≡◌};
+
+use table::line::Line;
+
 /// What a round robin holds of one flow: its weight, how often it was marked in this round, and whether it is due.
-#[derive(Clone, Copy)]
+#[derive(Clone, Copy, Default)]
 pub struct Quota {
     pub weight: u8,
     pub used: u8,
     pub due: bool,
+}
+
+/// What is held of a flow of a table before its first turn.
+impl From<Line> for Quota {
+    ghost use Rattle.round_robin.specs.RoundRobin.{fresh};
+
+    ghost from_gives = { λ line quota. quota ≡ fresh line };
+
+    fn from(line: Line) -> Quota {
+        Quota {
+            weight: line.weight,
+            used: 0,
+            due: false,
+        }
+    }
+}
+
+impl Quota {
+    ghost use Rattle.round_robin.specs.RoundRobin.{ready};
+
+    /// Whether a turn may mark the flow: it is due and has used below its weight.
+    pub(crate) fn is_ready(&self) -> bool
+        ensures { result ≡ ready self.now }
+    {
+        self.due && self.used < self.weight
+    }
 }

@@ -1,14 +1,8 @@
 -- Flows that enter one after another.
-use Rattle.std.proofs.Common.{◌≡◌, ℕ, zero, suc, ◌+◌, ◌<◌, ◌≤◌, true, sym, refl, ap, ◌∙◌, ⊎_elim, add-one, arith}
+use Rattle.std.proofs.Common.{◌≡◌, ℕ, zero, suc, ◌<◌, ◌≤◌, true, sym, refl, ap, ◌∙◌, ⊎_elim, arith}
 use Rattle.std.proofs.lemmas.Bool.{cases_eq}
 use Rattle.reference.specs.Meaning.{Meaning, Lawful, SameNumbers}
 use Rattle.rounds.specs.Rounds.{entered_below}
-
--- one more flow enters
-pub entered_more :
-    (M : Meaning) (h k after : M.Held) (n : ℕ)
-    → k ≡ entered_below M h n → after ≡ M.entered k n → after ≡ entered_below M h (n + 1)
-entered_more M h k after n e step = step ∙ (ap (λ z. M.entered z n) e ∙ rw (add-one n))
 
 module _ (M : Meaning) (L : Lawful M) (h : M.Held) (sound : M.Sound h) where
   entered_sound : (n : ℕ) → M.Sound (entered_below M h n)

@@ -1,5 +1,4 @@
 pub mod Counting
 pub mod Entering
+pub mod Rounded
 pub mod Turns
-pub mod TwoRounds
-pub mod Division

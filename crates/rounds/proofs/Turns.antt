@@ -28,21 +28,16 @@ module _ (M : Meaning) where
       (marks_push (M.turned h) n
       ∙ ap (λ k. marks_of M (M.turned h) (turns_then n []) ++ (M.marks k ∷ [])) (first_turn h n))
 
-  -- one more turn, from k on
-  module _ (h k : M.Held) (n : ℕ) (so_far : k ≡ after_turns M h n) where
-    pub turns_more : (after : M.Held) → after ≡ M.turned k → after ≡ after_turns M h (n + 1)
-    turns_more after step = step ∙ (ap M.turned so_far ∙ rw (add-one n))
-
-    -- its mark stands at place n
-    pub marks_more :
-        (marks : List (Option ℕ)) (mark : Option ℕ)
-        → n < length marks → take n marks ≡ marks_of M h (turns_then n []) → mark ≡ M.marks k
-        → take (n + 1) (set marks n mark) ≡ marks_of M h (turns_then (n + 1) [])
-    marks_more marks mark inside before step =
-        let put = take_more_set marks n mark inside in
-        let push = marks_push h n in
-        let next : marks_of M h (turns_then (n + 1) []) ≡ marks_of M h (turns_then (suc n) []) = rw (add-one n) in
-        cc
+  -- the mark of one more turn stands at place n
+  pub marks_more :
+      (h : M.Held) (n : ℕ) (marks : List (Option ℕ)) (mark : Option ℕ)
+      → n < length marks → take n marks ≡ marks_of M h (turns_then n []) → mark ≡ M.marks (after_turns M h n)
+      → take (n + 1) (set marks n mark) ≡ marks_of M h (turns_then (n + 1) [])
+  marks_more h n marks mark inside before step =
+      let put = take_more_set marks n mark inside in
+      let push = marks_push h n in
+      let next : marks_of M h (turns_then (n + 1) []) ≡ marks_of M h (turns_then (suc n) []) = rw (add-one n) in
+      cc
 
 module _ (M : Meaning) (L : Lawful M) (h : M.Held) where
   mark_due :

@@ -5,10 +5,6 @@ ghost use Rattle.rounds.specs.Fewest.{FewestMarks};
 pub fn fewest_marks(turns: u32, weight: u32, total: u32, allowance: u32) -> Option<u64>
     ensures { FewestMarks turns weight total allowance result }
 {
-    if total == 0 {
-        return None;
-    }
-    let total = u64::from(total);
     let owed = (u64::from(turns) * u64::from(weight)).saturating_sub(u64::from(allowance));
-    Some((owed + total - 1) / total)
+    (total > 0).then(|| owed.div_ceil(u64::from(total)))
 }

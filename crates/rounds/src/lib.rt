@@ -47,11 +47,5 @@ pub fn take_turns<R: Reference>(reference: &mut R, marks: &mut [Option<u8>])
 pub fn count_marks(marks: &[Option<u8>], flow: u8) -> usize
     ensures { result ≡ times_marked flow marks.now }
 {
-    let mut count = 0;
-    for mark in marks {
-        if *mark == Some(flow) {
-            count += 1;
-        }
-    }
-    count
+    marks.iter().filter(|mark| **mark == Some(flow)).count()
 }

@@ -7,8 +7,8 @@ use native.Mathlib.Bridge.{le_prop}
 use native.Mathlib.Nat.{ℕ_set}
 use Rattle.std.specs.List.{flat_map}
 use Rattle.std.proofs.lemmas.List.{take-append-drop}
-use Rattle.table.specs.Lines.{kind_number, kind_numbered, lookahead_fits, lines_fit, no_line}
-use Rattle.table.specs.Layout.{line_bytes, flow_lines, table_bytes}
+use Rattle.table.specs.Lines.{kind_number, kind_numbered, lookahead_fits, lines_fit, no_line, line_bytes}
+use Rattle.table.specs.Layout.{flow_lines, table_bytes}
 use Rattle.table.specs.declared.line.Kind.{Kind}
 use Rattle.table.specs.declared.line.Kind.TheVariants.{RoundRobin, Tags}
 use Rattle.table.specs.declared.line.Line.{Line}

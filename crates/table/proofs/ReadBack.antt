@@ -5,8 +5,8 @@ use Rattle.std.specs.List.{flat_map}
 use Rattle.std.proofs.lemmas.Bool.Decides.{nat_tests}
 use Rattle.octets.specs.BigEndian.{told_length}
 use Rattle.fault.specs.Faults.{refused}
-use Rattle.table.specs.Lines.{kind_number, kind_numbered}
-use Rattle.table.specs.Layout.{line_bytes, flow_lines, table_bytes}
+use Rattle.table.specs.Lines.{kind_number, kind_numbered, line_bytes}
+use Rattle.table.specs.Layout.{flow_lines, table_bytes}
 use Rattle.octets.specs.Conditions.{or_else}
 use Rattle.table.specs.Refusals.{frame_refusal, fields_refusal, header_refusal, lines_refusal, table_refusal, TableRead}
 use Rattle.fault.specs.declared.Layer.TheVariants.{Line as InLine}

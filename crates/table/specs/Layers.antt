@@ -1,5 +1,5 @@
 -- What each layer of reading a table answers.
-use Rattle.std.specs.Prelude.{◌≡◌, ℕ, ◌+◌, ◌*◌, ◌≤◌, true, cond, List, length, Some, None, Ok, Err, Result, slice_index}
+use Rattle.std.specs.Prelude.{◌≡◌, ℕ, ◌+◌, ◌*◌, ◌≤◌, true, cond, List, length, Some, None, Ok, Err, Result}
 use Rattle.std.specs.Option.{option_map}
 use Rattle.octets.specs.BigEndian.{byte_at, told_length}
 use Rattle.fault.specs.Faults.{refused, frame_told, header_told, line_told}
@@ -42,16 +42,6 @@ pub record GoodHeader (b : List ℕ) (h : Header) : Type 0 where
 abbrev pub HeaderRead : List ℕ → Result Header HeaderFault → Type 0
 HeaderRead b (Ok h) = GoodHeader b h
 HeaderRead b (Err e) = header_refusal b ≡ Some (header_told e)
-
--- the line of a flow in the bytes of all lines
-abbrev pub line_at : List ℕ → ℕ → Line
-line_at b f =
-    record {
-      weight = slice_index b (4 * f);
-      delay_weight = slice_index b (4 * f + 1);
-      lag_limit = slice_index b (4 * f + 2);
-      lead_limit = slice_index b (4 * f + 3);
-    }
 
 -- checking a flow's line: the first wrong byte of the two that can be
 abbrev pub LineChecked : Kind → ℕ → Line → Result Unit LineFault → Type 0

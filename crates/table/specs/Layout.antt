@@ -1,8 +1,8 @@
 -- The bytes of a table.
-use Rattle.std.specs.Prelude.{ℕ, cond, List, [], ◌∷◌, take, Some, None, Option, nat_lt, slice_index_or}
+use Rattle.std.specs.Prelude.{ℕ, cond, List, ◌∷◌, take, Some, None, Option, nat_lt, slice_index_or}
 use Rattle.std.specs.List.{flat_map}
 use Rattle.octets.specs.BigEndian.{framed}
-use Rattle.table.specs.Lines.{kind_number, no_line}
+use Rattle.table.specs.Lines.{kind_number, no_line, line_bytes}
 use Rattle.table.specs.declared.line.Kind.{Kind}
 use Rattle.table.specs.declared.line.Line.{Line}
 use Rattle.table.specs.declared.Table.{Table}
@@ -17,9 +17,6 @@ lookahead_of t = t.lookahead
 -- the lines of the flows, from flow 0 on
 abbrev pub flow_lines : Table → List Line
 flow_lines t = take t.flow_count t.lines
-
-abbrev pub line_bytes : Line → List ℕ
-line_bytes l = l.weight ∷ l.delay_weight ∷ l.lag_limit ∷ l.lead_limit ∷ []
 
 -- version 1, kind, lookahead, flow count and the lines, behind their length
 abbrev pub table_bytes : Table → List ℕ

@@ -28,6 +28,10 @@ delay_weight_fits Tags d = one_to_sixteen d
 abbrev pub line_fits : Kind → Line → Bool
 line_fits k l = one_to_sixteen l.weight && delay_weight_fits k l.delay_weight
 
+-- its four bytes
+abbrev pub line_bytes : Line → List ℕ
+line_bytes l = l.weight ∷ l.delay_weight ∷ l.lag_limit ∷ l.lead_limit ∷ []
+
 abbrev pub lines_fit : Kind → List Line → Bool
 lines_fit k [] = true
 lines_fit k (l ∷ ls) = line_fits k l && lines_fit k ls

@@ -11,6 +11,7 @@ mod header;
 pub mod line;
 mod questions;
 mod read;
+mod sixteen;
 mod write;
 
 /// A table that keeps every rule of its format: what a cell is set up from.
@@ -19,6 +20,7 @@ pub struct Table {
     kind: Kind,
     lookahead: u8,
     flow_count: u8,
+    // An array of 16 beside its count: a table is Copy, and there is no heap in it. An ArrayVec is not Copy.
     lines: [Line; 16],
     ghost some: { 1 ≤ flow_count },
     ghost few: { flow_count ≤ 16 },

@@ -1,21 +1,11 @@
-ghost use Rattle.std.specs.Prelude.{◌≡◌, ◌<◌, ◌≤◌, true, length, MatchOption};
+ghost use Rattle.std.specs.Prelude.{◌≡◌, ◌<◌, ◌≤◌, true, length, take, drop, MatchOption, All};
+ghost use Rattle.std.specs.List.{AllZip};
 ghost use Rattle.table.specs.Layout.{flow_lines, line_of};
 ghost use Rattle.table.specs.Lines.{line_fits, weights_sum};
 
 use crate::Table;
 use crate::line::{Kind, Line};
-
-/// The sum of the weights of some lines.
-fn sum_weights(lines: &[Line]) -> u16
-    requires { length lines.now ≤ 16 }
-    ensures { result ≡ weights_sum lines.now }
-{
-    let mut total = 0;
-    for line in lines {
-        total += u16::from(line.weight);
-    }
-    total
-}
+use crate::sixteen::sixteen_of;
 
 impl Table {
     /// The reference that the table asks for.
@@ -44,17 +34,24 @@ impl Table {
         ensures exact { result ≡ line_of self.now flow }
         ensures fits { MatchOption result (self.now.flow_count ≤ flow) (λ l. line_fits self.now.kind l ≡ true) }
     {
-        if flow >= self.flow_count {
-            return None;
-        }
-        Some(self.lines[flow as usize])
+        self.lines().get(usize::from(flow)).copied()
     }
 
     /// What the table says of each flow, from flow 0 on: 1 to 16 lines.
     pub fn lines(&self) -> &[Line]
-        ensures { result.now ≡ flow_lines self.now }
+        ensures exact { result.now ≡ flow_lines self.now }
+        ensures some { 1 ≤ length result.now }
+        ensures few { length result.now ≤ 16 }
     {
-        &self.lines[..self.flow_count as usize]
+        &self.lines[..usize::from(self.flow_count)]
+    }
+
+    /// A value for each flow, made of its line, and the default past the last flow.
+    pub fn per_flow<T: From<Line> + Default + Copy>(&self) -> [T; 16]
+        ensures made { AllZip T.from_gives (flow_lines self.now) (take self.now.flow_count result) }
+        ensures spare { All T.is_default (drop self.now.flow_count result) }
+    {
+        sixteen_of(self.lines())
     }
 
     /// The sum of the weights of all flows; at least 1.
@@ -62,6 +59,6 @@ impl Table {
         ensures exact { result ≡ weights_sum (flow_lines self.now) }
         ensures positive { 0 < result }
     {
-        sum_weights(self.lines())
+        self.lines().iter().map(|line| u16::from(line.weight)).sum()
     }
 }

@@ -1,5 +1,5 @@
 -- Proofs: either of two lawful references is lawful.
-use Rattle.std.proofs.Common.{ap, inl, inr}
+use Rattle.std.proofs.Common.{inl, inr, arith}
 use Rattle.std.specs.Prelude.{◌⊎◌}
 use Rattle.reference.specs.Meaning.{Meaning, Lawful, SameNumbers}
 use Rattle.table_reference.specs.Either.{either}
@@ -38,14 +38,10 @@ module _ (M N : Meaning) where
         left_is_not_due = both _ L.left_is_not_due K.left_is_not_due;
         leave_keeps_others_due = both _ L.leave_keeps_others_due K.leave_keeps_others_due;
         leave_lowers_no_arrears = both _ L.leave_lowers_no_arrears K.leave_lowers_no_arrears;
-        entering_again_alters_nothing =
-            both _ (λ a f s d. ap inl (L.entering_again_alters_nothing a f s d)) (λ b f s d. ap inr (K.entering_again_alters_nothing b f s d));
-        leaving_again_alters_nothing =
-            both _ (λ a f s d. ap inl (L.leaving_again_alters_nothing a f s d)) (λ b f s d. ap inr (K.leaving_again_alters_nothing b f s d));
-        entering_outside_alters_nothing =
-            both _ (λ a f s d. ap inl (L.entering_outside_alters_nothing a f s d)) (λ b f s d. ap inr (K.entering_outside_alters_nothing b f s d));
-        leaving_outside_alters_nothing =
-            both _ (λ a f s d. ap inl (L.leaving_outside_alters_nothing a f s d)) (λ b f s d. ap inr (K.leaving_outside_alters_nothing b f s d));
+        entering_again_alters_nothing = grind arith;
+        leaving_again_alters_nothing = grind arith;
+        entering_outside_alters_nothing = grind arith;
+        leaving_outside_alters_nothing = grind arith;
         marked_is_due = both _ L.marked_is_due K.marked_is_due;
         none_marked_none_due = both _ L.none_marked_none_due K.none_marked_none_due;
         none_due_none_marked = both _ L.none_due_none_marked K.none_due_none_marked;

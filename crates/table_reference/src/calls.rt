@@ -20,6 +20,7 @@ impl Reference for TableReference {
 
     ghost sound = { elim [ RoundRobin r ↦ robin_sound r | Tags t ↦ tags_sound t ] };
 
+    // The two arms of each call stand written out: a macro for them would hide the match, and is no plainer.
     fn flow_count(&self) -> u8 {
         match self {
             TableReference::RoundRobin(robin) => robin.flow_count(),
@@ -56,43 +57,23 @@ impl Reference for TableReference {
     }
 
     fn enter(&mut self, flow: u8) {
-        match *self {
-            TableReference::RoundRobin(mut robin) => {
-                robin.enter(flow);
-                *self = TableReference::RoundRobin(robin);
-            }
-            TableReference::Tags(mut tags) => {
-                tags.enter(flow);
-                *self = TableReference::Tags(tags);
-            }
+        match self {
+            TableReference::RoundRobin(robin) => robin.enter(flow),
+            TableReference::Tags(tags) => tags.enter(flow),
         }
     }
 
     fn leave(&mut self, flow: u8) {
-        match *self {
-            TableReference::RoundRobin(mut robin) => {
-                robin.leave(flow);
-                *self = TableReference::RoundRobin(robin);
-            }
-            TableReference::Tags(mut tags) => {
-                tags.leave(flow);
-                *self = TableReference::Tags(tags);
-            }
+        match self {
+            TableReference::RoundRobin(robin) => robin.leave(flow),
+            TableReference::Tags(tags) => tags.leave(flow),
         }
     }
 
     fn turn(&mut self) -> Option<u8> {
-        match *self {
-            TableReference::RoundRobin(mut robin) => {
-                let mark = robin.turn();
-                *self = TableReference::RoundRobin(robin);
-                mark
-            }
-            TableReference::Tags(mut tags) => {
-                let mark = tags.turn();
-                *self = TableReference::Tags(tags);
-                mark
-            }
+        match self {
+            TableReference::RoundRobin(robin) => robin.turn(),
+            TableReference::Tags(tags) => tags.turn(),
         }
     }
 }

@@ -12,9 +12,9 @@ impl TableReference {
         ensures made { Made table.now result }
         ensures worked { WorkedMarks }
     {
-        match Tags::of(table) {
-            Some(tags) => TableReference::Tags(tags),
-            None => TableReference::RoundRobin(RoundRobin::of(table)),
-        }
+        Tags::of(table).map_or_else(
+            || TableReference::RoundRobin(RoundRobin::of(table)),
+            TableReference::Tags,
+        )
     }
 }

@@ -1,11 +1,10 @@
 -- The flow that a turn marks is the one that would finish first.
-use Rattle.std.proofs.Common.{◌≡◌, ℕ, zero, suc, ◌+◌, ◌<◌, ◌≤◌, Bool, true, false, ◌&&◌, eqb, ltb, ◌⊎◌, List, [], ◌∷◌, length, get_or, sym, refl, ap, subst, inl, inr, ⊎_elim, arith}
-use Rattle.std.specs.Cmp.{IsStrictWeakOrder}
+use Rattle.std.proofs.Common.{◌≡◌, ℕ, zero, suc, ◌+◌, ◌<◌, ◌≤◌, Bool, true, false, ◌⊎◌, List, [], ◌∷◌, length, get_or, sym, refl, ap, subst, inl, inr, ⊎_elim, arith}
 use Rattle.std.specs.List.{best_of, AllByRecursion}
 use Rattle.std.proofs.lemmas.List.MinMax.{IsFirstBest-from_best_of}
 use Rattle.std.proofs.ByRecursion.{All-from_get_or}
 use Rattle.std.proofs.lemmas.List.{get_or_past}
-use Rattle.std.proofs.lemmas.Bool.{cases_lt, or_parts, ltb-false, eq-eqb, both_ways}
+use Rattle.std.proofs.lemmas.Bool.{cases_lt, both_ways}
 use Rattle.std.proofs.lemmas.Bool.Decides.{nat_tests}
 use Rattle.tag_rule.specs.declared.entry.Entry.{Entry}
 use Rattle.tag_rule.specs.declared.stamp.Stamp.{Stamp}
@@ -51,16 +50,7 @@ each_entry P v p i (s ∷ ss) a k l e = split (eligible v p s) refl k l e (each_
 -- one that another is not sooner than
 not_sooner :
     (e b : Entry) → sooner e b ≡ false → (b.finish < e.finish) ⊎ ((b.finish ≡ e.finish) × (b.flow ≤ e.flow))
-not_sooner e b h =
-    let parts = or_parts (ltb e.finish b.finish) (eqb e.finish b.finish && ltb e.flow b.flow) h in
-    let le = ltb-false e.finish b.finish parts.0 in
-    ⊎_elim
-    (λ l. inl l)
-    (λ l.
-    let same : e.finish ≡ b.finish = omega (arith, le, l) in
-    let low : ltb e.flow b.flow ≡ false = rw (eq-eqb e.finish b.finish same) at parts.1 in
-    inr (sym same, ltb-false e.flow b.flow low))
-    (cases_lt b.finish e.finish)
+not_sooner e b h = grind (arith, nat_tests)
 
 -- only a flow of the table is eligible
 eligible_inside : (v p : ℕ) (ss : List Stamp) (g : ℕ) → eligible v p (stamp_at ss g) ≡ true → g < length ss

@@ -137,7 +137,7 @@ pub later_none : (ss : List Stamp) → map (later 0) ss ≡ ss
 later_none [] = refl
 later_none (s ∷ ss) = let e : s.tag - 0 ≡ s.tag = omega arith in rw e (ap (λ zs. s ∷ zs) (later_none ss))
 
-settled_same : (ss : List Stamp) → advance ss ≡ 0 → settled ss ≡ ss
+pub settled_same : (ss : List Stamp) → advance ss ≡ 0 → settled ss ≡ ss
 settled_same ss e = ap (λ d. map (later d) ss) e ∙ later_none ss
 
 -- A changed list, settled: what is told, and what is kept.
@@ -154,7 +154,7 @@ module _ (p : ℕ) (ss : List Stamp) (f : ℕ) (y : Stamp) (share : y.weight ≡
   length_same : length (settled (set ss f y)) ≡ length ss
   length_same = settled_length (set ss f y) ∙ length-set ss f y
 
-  changed_numbers : SameNumbers tags (record { stamps = ss; lookahead = p }) (record { stamps = settled (set ss f y); lookahead = p })
+  pub changed_numbers : SameNumbers tags (record { stamps = ss; lookahead = p }) (record { stamps = settled (set ss f y); lookahead = p })
   changed_numbers =
       record {
         flows = length_same;
@@ -167,7 +167,7 @@ module _ (p : ℕ) (ss : List Stamp) (f : ℕ) (y : Stamp) (share : y.weight ≡
         total = sum_same;
       }
 
-  changed_sound :
+  pub changed_sound :
       Sound (record { stamps = ss; lookahead = p })
       → (f < length ss → Kept p y)
       → Sound (record { stamps = settled (set ss f y); lookahead = p })

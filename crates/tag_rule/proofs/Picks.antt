@@ -1,11 +1,13 @@
 -- The flow that a turn marks: what it is, and that there is one if a flow is due.
-use Rattle.std.proofs.Common.{◌≡◌, ℕ, zero, suc, ◌+◌, ◌<◌, Bool, true, false, cond, List, [], ◌∷◌, length, Some, None, sym, refl, ap, ◌∙◌, subst, ⊎_elim, arith}
+use Rattle.std.proofs.Common.{◌≡◌, ℕ, zero, suc, ◌+◌, ◌<◌, Bool, true, false, List, [], ◌∷◌, length, Some, None, sym, refl, ap, ◌∙◌, subst, ⊎_elim, arith}
 use Rattle.std.specs.List.{best_of, AllByRecursion}
-use Rattle.std.proofs.ByRecursion.{All-weaker}
+use Rattle.std.proofs.ByRecursion.{All-get_or, All-weaker}
+use Rattle.std.proofs.lemmas.List.MinMax.{IsFirstBest-from_best_of}
 use Rattle.std.proofs.lemmas.Bool.{cases_Bool, and_from, le-leb, both_ways, cond_both}
 use Rattle.tag_rule.specs.declared.stamp.Stamp.{Stamp}
 use Rattle.tag_rule.specs.declared.entry.Entry.{Entry}
 use Rattle.tag_rule.specs.Rule.{stamp_at, eligible, finish_tag, entries, sooner, soonest, time_after}
+use Rattle.tag_rule.specs.Ranks.{sooner_ranks}
 use Rattle.tag_rule.specs.Tags.{advance}
 use Rattle.tag_rule.proofs.VirtualTime.{lowest_le, lowest_at}
 
@@ -28,11 +30,6 @@ entries_of v p i (s ∷ ss) =
     (λ e. ((0, omega arith, omega arith, e, refl), rest))
     (λ e. rest)
 
-best_all : (P : Entry → Type 0) (a : Entry) (xs : List Entry) → P a → AllByRecursion P xs → P (best_of sooner a xs)
-best_all P a [] h t = h
-best_all P a (x ∷ xs) h t =
-    best_all P (cond (sooner x a) x a) xs (cond_both (sooner x a) x a P (λ _. t.0) (λ _. h)) t.1
-
 -- the best entry is that of an eligible flow
 pub best_entry :
     (v p : ℕ) (ss : List Stamp) (x : Entry) (xs : List Entry)
@@ -42,7 +39,8 @@ pub best_entry :
 unfolding Of
 best_entry v p ss x xs q f r =
     let a : AllByRecursion (Of v p 0 ss) (x ∷ xs) = subst (AllByRecursion (Of v p 0 ss)) q (entries_of v p 0 ss) in
-    let o : Of v p 0 ss (best_of sooner x xs) = best_all (Of v p 0 ss) x xs a.0 a.1 in
+    let m = IsFirstBest-from_best_of sooner_ranks x xs in
+    let o : Of v p 0 ss (best_of sooner x xs) = subst (Of v p 0 ss) m.2 (All-get_or (Of v p 0 ss) (x ∷ xs) m.0 x m.1.0 a) in
     let k : f ≡ o.0 = omega (arith, r, o.1) in
     (omega (arith, k, o.2), ap (λ n. eligible v p (stamp_at ss n)) k ∙ o.3, o.4 ∙ ap (λ n. finish_tag (stamp_at ss n)) (sym k))
 

@@ -10,6 +10,6 @@ impl TotalOrder for Entry {
     ghost ranks = { sooner_ranks };
 
     fn precedes(&self, other: &Entry) -> bool {
-        self.finish < other.finish || self.finish == other.finish && self.flow < other.flow
+        self < other
     }
 }

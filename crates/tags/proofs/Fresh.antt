@@ -23,27 +23,26 @@ same_sum : (ls : List Line) → weights_sum ls ≡ sum weight_of (map fresh ls)
 same_sum [] = refl
 same_sum (l ∷ ls) = ap (λ n. l.weight + n) (same_sum ls)
 
--- the first n stamps of zs, fresh from the lines ls of the table t
-module _ (t : Table) (n p : ℕ) (ls : List Line) (zs : List Stamp) (e : n ≡ t.flow_count) (q : p ≡ lookahead_of t)
-    (lines : ls ≡ flow_lines t) (made : take (length ls) zs ≡ map fresh ls) where
+-- the first n stamps of zs, fresh from the lines of the table t
+module _ (t : Table) (n p : ℕ) (zs : List Stamp) (e : n ≡ t.flow_count) (q : p ≡ lookahead_of t)
+    (made : take t.flow_count zs ≡ map fresh (flow_lines t)) where
   counted : n ≡ length (flow_lines t)
   counted = e ∙ sym (flow_lines_length t)
 
   fresh_front : take n zs ≡ map fresh (flow_lines t)
-  fresh_front =
-      ap (λ m. take m zs) (counted ∙ ap length (sym lines))
-      ∙ (made ∙ ap (map fresh) lines)
+  fresh_front = ap (λ m. take m zs) e ∙ made
 
-  fresh_at : (k : ℕ) → k < n → stamp_at zs k ≡ fresh (get_or (flow_lines t) k no_line)
-  fresh_at k l =
+  fresh_flow : (k : ℕ) → k < n → stamp_at zs k ≡ fresh (get_or (flow_lines t) k no_line)
+  fresh_flow k l =
       sym (front_at zs n k l)
-      ∙ (ap (λ ss. stamp_at ss k) fresh_front ∙ get_or-map fresh (flow_lines t) k no_line no_stamp (omega (arith, counted)))
+      ∙ ap (λ ss. stamp_at ss k) fresh_front
+      ∙ get_or-map fresh (flow_lines t) k no_line no_stamp (omega (arith, counted))
 
   pub fresh_kept : kind_of t ≡ Tags → KeptBelow p zs n
   fresh_kept kind k l =
       let w = weight_in_range t k (omega (arith, counted)) in
       let d = delay_weight_in_range t kind k (omega (arith, counted)) in
-      subst (Kept p) (sym (fresh_at k l)) (w.0, w.1, d.0, d.1, omega arith)
+      subst (Kept p) (sym (fresh_flow k l)) (w.0, w.1, d.0, d.1, omega arith)
 
   pub fresh_on_time : advance (take n zs) ≡ 0
   fresh_on_time = ap advance fresh_front ∙ ap (time_after 0) (none_due (flow_lines t))

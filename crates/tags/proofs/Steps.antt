@@ -1,74 +1,93 @@
--- The steps of the loops over the stamps.
-use Rattle.std.proofs.Common.{◌≡◌, ℕ, ◌+◌, ◌<◌, ◌≤◌, min, true, false, List, [], ◌∷◌, ◌++◌, length, get_or, take, drop, set, Some, None, Option, sym, refl, ap, ◌∙◌, append_assoc, append-nil, arith}
-use Rattle.std.specs.List.{IsFirstBest}
+-- The entries of the stamps, one stamp after another; the least of them; and the lowest tag as the minimum of a list.
+use Rattle.std.proofs.Common.{◌≡◌, ℕ, ◌+◌, ◌<◌, ◌≤◌, min, Bool, true, false, cond, List, [], ◌∷◌, ◌++◌, map, length, length-take-le, get_or, take, Some, None, Option, sym, refl, ap, ◌∙◌, arith}
+use Rattle.std.specs.List.{filter, reduce, fold}
+use Rattle.std.specs.Option.{option_map, option_to_list, unwrap_or}
+use Rattle.std.proofs.lemmas.Grind.{common_steps}
 use Rattle.std.proofs.lemmas.List.MinMax.{IsFirstBest-from_best_of, IsFirstBest-unique}
-use Rattle.std.proofs.lemmas.List.{drop_all, drop_more, take_more_set, get_or_default, nil_from_length}
+use Rattle.std.proofs.lemmas.List.{length-map, take_more, get_or_default, ext_get_or, get_or-map, nil_from_length}
 use Rattle.tag_rule.specs.declared.stamp.Stamp.{Stamp}
 use Rattle.tag_rule.specs.declared.entry.Entry.{Entry}
+use Rattle.order.specs.Least.{LeastAt}
 use Rattle.tag_rule.specs.Ranks.{sooner_ranks}
-use Rattle.tag_rule.specs.Rule.{no_stamp, stamp_at, eligible, finish_tag, lower, lowest, entries, sooner, soonest}
+use Rattle.tag_rule.specs.Rule.{no_stamp, stamp_at, eligible, finish_tag, lower, lowest, time_after, entries, sooner, soonest}
+use Rattle.tag_rule.specs.Tags.{with_lookahead, is_due}
+use Rattle.tags.specs.View.{entry_of}
 
--- The lowest so far, with the lowest of the rest.
-abbrev pub join : Option ℕ → Option ℕ → Option ℕ
-join None o = o
-join (Some a) o = Some (lower a o)
+-- the list ys of what f makes of each of xs
+pub mapped :
+    {A B : Type 0} (f : A → B) (xs : List A) (ys : List B) (d : A) (e : B)
+    → length ys ≡ length xs → ((k : ℕ) → k < length xs → get_or ys k e ≡ f (get_or xs k d)) → ys ≡ map f xs
+mapped f xs ys d e l same =
+    ext_get_or e ys (map f xs) (l ∙ sym (length-map xs f))
+    (λ k h. same k (omega arith) ∙ sym (get_or-map f xs k d e (omega arith)))
 
-join_none : (o : Option ℕ) → join o None ≡ o
-join_none None = refl
-join_none (Some a) = refl
+abbrev pub tag_of : Stamp → ℕ
+tag_of s = s.tag
 
-join_more : (t : ℕ) (o r : Option ℕ) → join (Some (lower t o)) r ≡ join o (Some (lower t r))
-join_more t None r = refl
-join_more t (Some a) None = let e : min t a ≡ min a t = omega arith in ap Some e
-join_more t (Some a) (Some u) = let e : min (min t a) u ≡ min a (min t u) = omega arith in ap Some e
+lower_fold : (a : ℕ) (xs : List ℕ) → fold min a xs ≡ lower a (reduce min xs)
+lower_fold a [] = refl
+lower_fold a (x ∷ xs) = lower_fold (min a x) xs ∙ (step (reduce min xs) ∙ ap (lower a) (ap Some (sym (lower_fold x xs))))
+  where
+    step : (o : Option ℕ) → lower (min a x) o ≡ min a (lower x o)
+    step None = refl
+    step (Some u) = omega arith
 
-module _ (ss : List Stamp) (o : Option ℕ) (i : ℕ) where
-  pub low_hit :
-      i < length ss → (stamp_at ss i).due ≡ true
-      → join (Some (lower (stamp_at ss i).tag o)) (lowest (drop (i + 1) ss)) ≡ join o (lowest (drop i ss))
-  low_hit l e =
-      let q : lowest (drop i ss) ≡ Some (lower (stamp_at ss i).tag (lowest (drop (i + 1) ss))) = rw (drop_more ss i no_stamp l, e) in
-      join_more (stamp_at ss i).tag o (lowest (drop (i + 1) ss)) ∙ ap (join o) (sym q)
+-- the smallest tag of the due flows is what the rule calls lowest
+pub lowest_is : (ss : List Stamp) → reduce min (map tag_of (filter is_due ss)) ≡ lowest ss
+lowest_is [] = refl
+lowest_is (s ∷ ss) = let more = lowest_is ss in let here = lower_fold s.tag (map tag_of (filter is_due ss)) in grind arith
 
-  pub low_pass : i < length ss → (stamp_at ss i).due ≡ false → join o (lowest (drop (i + 1) ss)) ≡ join o (lowest (drop i ss))
-  low_pass l e = let q : lowest (drop i ss) ≡ lowest (drop (i + 1) ss) = rw (drop_more ss i no_stamp l, e) in ap (join o) (sym q)
+pub time_is : (o p : Option ℕ) → o ≡ p → unwrap_or o 0 ≡ time_after 0 p
+time_is o p e = ap (λ r. unwrap_or r 0) e ∙ same p
+  where
+    same : (r : Option ℕ) → unwrap_or r 0 ≡ time_after 0 r
+    same None = refl
+    same (Some t) = refl
 
-  pub low_end : length ss ≤ i → join o (lowest (drop i ss)) ≡ o
-  low_end l = let q : lowest (drop i ss) ≡ None = rw (drop_all i ss l) in ap (join o) q ∙ join_none o
+entries_append : (v p i : ℕ) (xs ys : List Stamp) → entries v p i (xs ++ ys) ≡ entries v p i xs ++ entries v p (i + length xs) ys
+entries_append v p i [] ys = let e : i + 0 ≡ i = omega arith in rw e
+entries_append v p i (s ∷ xs) ys = let more = entries_append v p (i + 1) xs ys in grind (arith, common_steps)
 
--- The entries so far, with those of the rest.
-module _ (p : ℕ) (ss : List Stamp) (out : List Entry) (n i : ℕ) where
-  pub list_hit :
-      i < length ss → n < length out → eligible 0 p (stamp_at ss i) ≡ true
-      → take (n + 1) (set out n (record { finish = finish_tag (stamp_at ss i); flow = i })) ++ entries 0 p (i + 1) (drop (i + 1) ss)
-      ≡ take n out ++ entries 0 p i (drop i ss)
-  list_hit l m e =
-      let q : entries 0 p i (drop i ss) ≡ record { finish = finish_tag (stamp_at ss i); flow = i } ∷ entries 0 p (i + 1) (drop (i + 1) ss)
-      = rw (drop_more ss i no_stamp l, e) in
-      ap (λ xs. xs ++ entries 0 p (i + 1) (drop (i + 1) ss)) (take_more_set out n (record { finish = finish_tag (stamp_at ss i); flow = i }) m)
-      ∙ (append_assoc (take n out) (record { finish = finish_tag (stamp_at ss i); flow = i } ∷ []) (entries 0 p (i + 1) (drop (i + 1) ss))
-      ∙ ap (λ xs. take n out ++ xs) (sym q))
+entries_length : (v p i : ℕ) (ss : List Stamp) → length (entries v p i ss) ≤ length ss
+entries_length v p i [] = omega arith
+entries_length v p i (s ∷ ss) = let more = entries_length v p (i + 1) ss in grind (arith, common_steps)
 
-  pub list_pass :
-      i < length ss → eligible 0 p (stamp_at ss i) ≡ false
-      → take n out ++ entries 0 p (i + 1) (drop (i + 1) ss) ≡ take n out ++ entries 0 p i (drop i ss)
-  list_pass l e =
-      let q : entries 0 p i (drop i ss) ≡ entries 0 p (i + 1) (drop (i + 1) ss) = rw (drop_more ss i no_stamp l, e) in
-      ap (λ xs. take n out ++ xs) (sym q)
+one_or_none : (b : Bool) (e : Entry) → cond b (e ∷ []) [] ≡ option_to_list (cond b (Some e) None)
+one_or_none true e = refl
+one_or_none false e = refl
 
-  pub list_end : length ss ≤ i → take n out ++ entries 0 p i (drop i ss) ≡ take n out
-  list_end l = let q : entries 0 p i (drop i ss) ≡ [] = rw (drop_all i ss l) in ap (λ xs. take n out ++ xs) q ∙ append-nil (take n out)
+-- one more stamp, with its entry if it has one
+entries_more :
+    (p : ℕ) (ss : List Stamp) (i : ℕ) → i < length ss
+    → entries 0 p 0 (take (i + 1) ss) ≡ entries 0 p 0 (take i ss) ++ option_to_list (entry_of (with_lookahead p ss) i)
+entries_more p ss i l =
+    let long : 0 + length (take i ss) ≡ i = omega (arith, length-take-le i ss (omega arith)) in
+    ap (entries 0 p 0) (take_more ss i no_stamp l)
+    ∙ (entries_append 0 p 0 (take i ss) (stamp_at ss i ∷ [])
+    ∙ ap (λ es. entries 0 p 0 (take i ss) ++ es) (ap (λ n. entries 0 p n (stamp_at ss i ∷ [])) long
+    ∙ one_or_none (eligible 0 p (stamp_at ss i)) (record { finish = finish_tag (stamp_at ss i); flow = i })))
+
+-- the entries xs of the first i stamps, and what is made of them at one more
+module _ (p : ℕ) (ss : List Stamp) (i : ℕ) (xs : List Entry) (l : i < length ss) (so_far : xs ≡ entries 0 p 0 (take i ss)) where
+  pub found_few : length xs ≤ i
+  found_few =
+      omega (arith, ap length so_far, entries_length 0 p 0 (take i ss), length-take-le i ss (omega arith))
+
+  pub found_more :
+      (ys : List Entry) (o : Option Entry) → o ≡ entry_of (with_lookahead p ss) i → ys ≡ xs ++ option_to_list o
+      → ys ≡ entries 0 p 0 (take (i + 1) ss)
+  found_more ys o e q =
+      q
+      ∙ (ap (λ es. es ++ option_to_list o) so_far
+      ∙ (ap (λ r. entries 0 p 0 (take i ss) ++ option_to_list r) e ∙ sym (entries_more p ss i l)))
 
 -- The least entry is the soonest.
-pub least_is : (xs : List Entry) (i : ℕ) (d : Entry) → IsFirstBest sooner xs (length xs) i → Some (get_or xs i d).flow ≡ soonest xs
-least_is [] i d b = absurd (omega (arith, b.0))
-least_is (x ∷ xs) i d b =
+pub least_is :
+    (xs : List Entry) (least : Option ℕ) (d : Entry) → LeastAt sooner xs least
+    → option_map (λ i. (get_or xs i d).flow) least ≡ soonest xs
+least_is xs None d e = sym (ap soonest (nil_from_length xs e))
+least_is [] (Some i) d b = absurd (omega (arith, b.0))
+least_is (x ∷ xs) (Some i) d b =
     let m = IsFirstBest-from_best_of sooner_ranks x xs in
     let q : i ≡ m.0 = IsFirstBest-unique sooner_ranks (x ∷ xs) (length (x ∷ xs)) i m.0 x b m.1 in
     ap (λ e. Some e.flow) (get_or_default (x ∷ xs) i d x b.0 ∙ (ap (λ k. get_or (x ∷ xs) k x) q ∙ m.2))
-
-pub none_is : (xs : List Entry) → length xs ≡ 0 → None ≡ soonest xs
-none_is xs e = sym (ap soonest (nil_from_length xs e))
-
-abbrev pub entry : ℕ → ℕ → Entry
-entry z f = record { finish = z; flow = f }

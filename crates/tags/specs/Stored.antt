@@ -1,31 +1,24 @@
 -- Proofs, for the laws and the code: the array of the code and the stamps that it stands for.
-use Rattle.std.specs.Prelude.{◌≡◌, ℕ, ◌-◌, ◌*◌, ◌<◌, ◌≤◌, Bool, true, false, List, ◌++◌, length, take, drop, Some, None, Option, nat_lt, slice_set, refl}
+use Rattle.std.specs.Prelude.{◌≡◌, ℕ, ◌-◌, ◌*◌, ◌<◌, ◌≤◌, List, length, map, take, Some, None, slice_set}
 use Rattle.std.proofs.Common.{sym, ap, subst, ◌∙◌, arith, length-set}
 use Rattle.std.specs.List.{AllByRecursion}
-use Rattle.std.proofs.ByRecursion.{All-get_or}
-use Rattle.std.proofs.lemmas.List.{get_or-take, get_or_past}
-use Rattle.std.proofs.lemmas.Bool.{ltb-true, ltb-false}
-use Rattle.reference.specs.Calls.{Call, after}
-use Rattle.reference.specs.Calls.Call.{turning, entering, leaving}
+use Rattle.std.proofs.lemmas.List.{get_or-take, take-map, length-map}
+use Rattle.std.proofs.lemmas.Bool.Decides.{nat_tests}
+use Rattle.reference.specs.Calls.Call.{turning}
 use Rattle.reference.specs.Flows.{sum, others}
-use Rattle.reference.specs.Meaning.{SameNumbers}
-use Rattle.reference.proofs.Calls.{after_sound, after_numbers}
-use Rattle.reference.proofs.Fronts.{front_length, front_all, front_each, back_front, back_sized}
+use Rattle.reference.proofs.Fronts.{front_length, front_all, front_each}
 use Rattle.reference.proofs.Steps.{take_set}
 use Rattle.reference.proofs.Totals.{sum_split}
 use Rattle.tag_rule.specs.declared.stamp.Stamp.{Stamp}
 use Rattle.tags.specs.declared.Tags.{Tags}
-use Rattle.tag_rule.specs.Rule.{no_stamp, stamp_at, marked}
-use Rattle.tag_rule.specs.Tags.{Tagged, with_lookahead, clock, held_after, stamp_of, weight_of, is_due, advance, settled, switching, Kept, KeptBelow, Sound, tags}
+use Rattle.tag_rule.specs.Rule.{no_stamp, stamp_at, marked, charge}
+use Rattle.tag_rule.specs.Tags.{with_lookahead, clock, held_after, stamp_of, weight_of, advance, later, settled, Kept, KeptBelow, Sound}
 use Rattle.tags.specs.View.{tags_held}
-use Rattle.tag_rule.proofs.Laws.{flagged, switched_is, tags_lawful, picked_parts, stamp_kept, switch_past}
+use Rattle.tag_rule.proofs.Laws.{picked_parts, changed_sound, changed_numbers, settled_same}
 
 -- what the array holds of a flow, its front does
 pub front_at : (ss : List Stamp) (n k : ℕ) → k < n → stamp_at (take n ss) k ≡ stamp_at ss k
 front_at ss n k h = get_or-take n ss k no_stamp h
-
-pub all_below : (p : ℕ) (ss : List Stamp) → AllByRecursion (Kept p) ss → KeptBelow p ss (length ss)
-all_below p ss a k l = All-get_or (Kept p) ss k no_stamp l a
 
 pub held_length : (t : Tags) → length (take t.count t.stamps) ≡ t.count
 held_length t = front_length t.stamps t.count t.sized t.few
@@ -48,103 +41,66 @@ pub record Stored (t : Tags) (zs : List Stamp) : Type 0 where
   pub on_time : advance (take t.count zs) ≡ 0
   pub summed : t.total ≡ sum weight_of (take t.count zs)
 
-after_is : (h : Tagged) (x : Call) → after tags h x ≡ held_after h x
-after_is h turning = refl
-after_is h (entering f) = refl
-after_is h (leaving f) = refl
+-- Flow f is given the stamp y, and all is seen from where virtual time moves on to: zs is the array then. (n and i are
+-- the count and f, as numbers of another width.)
+module _ (t : Tags) (f : ℕ) (y : Stamp) (zs : List Stamp) (n i d : ℕ)
+    (share : y.weight ≡ (stamp_at (tags_held t).stamps f).weight) (k : Kept t.lookahead y)
+    (e : n ≡ t.count) (q : i ≡ f) (moved : d ≡ advance (take n (slice_set t.stamps i y)))
+    (made : zs ≡ map (later d) (slice_set t.stamps i y)) where
+  put_front : take t.count zs ≡ settled (slice_set (tags_held t).stamps f y)
+  put_front =
+      let long = ap (λ m. take m (slice_set t.stamps i y)) e in
+      let step : take t.count (slice_set t.stamps i y) ≡ slice_set (tags_held t).stamps f y
+      = take_set t.count t.stamps i y ∙ ap (λ j. slice_set (tags_held t).stamps j y) q in
+      let time : d ≡ advance (slice_set (tags_held t).stamps f y) = moved ∙ ap advance (long ∙ step) in
+      ap (take t.count) made
+      ∙ (take-map (later d) t.count (slice_set t.stamps i y)
+      ∙ (ap (map (later d)) step ∙ ap (λ m. map (later m) (slice_set (tags_held t).stamps f y)) time))
 
--- After a call x, with the stamps ms that it leaves put back at the front of the array bs.
-module _ (t : Tags) (x : Call) (bs ms : List Stamp) (z : length bs ≡ 16) (e : ms ≡ (held_after (tags_held t) x).stamps) where
-  over_is : with_lookahead t.lookahead ms ≡ held_after (tags_held t) x
-  over_is = ap (with_lookahead t.lookahead) e
-
-  sounds : Sound (with_lookahead t.lookahead ms)
-  sounds = subst Sound (after_is (tags_held t) x ∙ sym over_is) (after_sound tags tags_lawful (tags_held t) (held_sound t) x)
-
-  numbers : SameNumbers tags (tags_held t) (with_lookahead t.lookahead ms)
-  numbers =
-      subst (SameNumbers tags (tags_held t)) (after_is (tags_held t) x ∙ sym over_is)
-      (after_numbers tags tags_lawful (tags_held t) (held_sound t) x)
-
-  long : length ms ≡ t.count
-  long = numbers.flows ∙ held_length t
-
-  front : take t.count (ms ++ drop t.count bs) ≡ ms
-  front = back_front t.count ms bs t.few z long
-
-  pub stored : Stored t (ms ++ drop t.count bs)
-  stored =
-      let l = back_sized t.count ms bs t.few z long in
+  pub put_stored : Stored t zs
+  put_stored =
+      let z : length zs ≡ 16 = ap length made ∙ (length-map (slice_set t.stamps i y) (later d) ∙ (length-set t.stamps i y ∙ t.sized)) in
+      let sounds = changed_sound t.lookahead (tags_held t).stamps f y share (held_sound t) (λ _. k) in
+      let numbers = changed_numbers t.lookahead (tags_held t).stamps f y share in
       record {
-        sized = l;
-        kept =
-            front_each (ms ++ drop t.count bs) t.count l t.few (Kept t.lookahead) no_stamp
-            (subst (AllByRecursion (Kept t.lookahead)) (sym front) sounds.kept);
-        on_time = ap advance front ∙ sounds.on_time;
-        summed = t.summed ∙ sym numbers.total ∙ ap (sum weight_of) (sym front);
+        sized = z;
+        kept = front_each zs t.count z t.few (Kept t.lookahead) no_stamp (subst (AllByRecursion (Kept t.lookahead)) (sym put_front) sounds.kept);
+        on_time = ap advance put_front ∙ sounds.on_time;
+        summed = t.summed ∙ sym numbers.total ∙ ap (sum weight_of) (sym put_front);
       }
 
-  pub stored_holds : with_lookahead t.lookahead (take t.count (ms ++ drop t.count bs)) ≡ held_after (tags_held t) x
-  stored_holds = ap (with_lookahead t.lookahead) front ∙ over_is
+  pub put_holds : with_lookahead t.lookahead (take t.count zs) ≡ with_lookahead t.lookahead (settled (slice_set (tags_held t).stamps f y))
+  put_holds = ap (with_lookahead t.lookahead) put_front
 
--- A flow that enters or leaves: first its due is set in the array, then virtual time settles.
-module _ (b : Bool) (t : Tags) (f : ℕ) where
-  abbrev pub switched : List Stamp
-  switched = slice_set t.stamps f (flagged b (stamp_at t.stamps f))
+-- A turn that marks no flow alters nothing.
+pub unmarked_same : (t : Tags) → None ≡ marked (clock (tags_held t)) → tags_held t ≡ held_after (tags_held t) turning
+unmarked_same t e =
+    ap (with_lookahead t.lookahead)
+    (sym (settled_same (tags_held t).stamps t.on_time) ∙ ap (λ o. settled (charge (tags_held t).stamps o)) e)
 
-  pub switched_sized : length switched ≡ 16
-  switched_sized = length-set t.stamps f (flagged b (stamp_at t.stamps f)) ∙ t.sized
+-- The flow f that a turn marks. (i is f, as a number of another width.)
+module _ (t : Tags) (f i : ℕ) (q : i ≡ f) (e : Some f ≡ marked (clock (tags_held t))) where
+  pub pick_below : f < t.count
+  pick_below = omega (arith, (picked_parts (tags_held t) f (sym e)).0, held_length t)
 
-  pub switched_settled :
-      f < t.count → settled (take t.count switched) ≡ (held_after (tags_held t) (switching b f)).stamps
-  switched_settled l =
-      ap settled
-      (take_set t.count t.stamps f (flagged b (stamp_at t.stamps f))
-      ∙ ap (λ s. slice_set (take t.count t.stamps) f (flagged b s)) (sym (front_at t.stamps t.count f l)))
-      ∙ ap (λ h. h.stamps) (sym (switched_is b (tags_held t) f))
+  pub pick_at : stamp_at t.stamps i ≡ stamp_at (tags_held t).stamps f
+  pick_at = ap (stamp_at t.stamps) q ∙ sym (front_at t.stamps t.count f pick_below)
 
-  pub switched_outside : t.count ≤ f → tags_held t ≡ held_after (tags_held t) (switching b f)
-  switched_outside l =
-      sym (switched_is b (tags_held t) f ∙ switch_past b (tags_held t) f (held_sound t) (omega (arith, held_length t)))
+  pub pick_kept : Kept t.lookahead (stamp_at t.stamps i)
+  pick_kept = t.kept i (omega (arith, q, pick_below))
 
--- The flow f that a turn marks.
-module _ (p : ℕ) (ss : List Stamp) (f : ℕ) (s : Sound (with_lookahead p ss)) (o : Option ℕ) (e : o ≡ marked (clock (with_lookahead p ss))) (q : o ≡ Some f) where
-  pub marked_below : f < length ss
-  marked_below = (picked_parts (with_lookahead p ss) f (sym e ∙ q)).0
-
-  pub marked_weight : 1 ≤ (stamp_at ss f).weight
-  marked_weight = (stamp_kept p ss f s.kept marked_below).0
-
-  pub marked_tag : (stamp_at ss f).tag ≤ 16 * 720720
-  marked_tag =
-      let a = (picked_parts (with_lookahead p ss) f (sym e ∙ q)).2 in
-      omega (arith, a, s.looks)
+  pub pick_tag : (stamp_at t.stamps i).tag ≤ t.lookahead * 720720
+  pick_tag = subst (λ (s : Stamp). s.tag ≤ t.lookahead * 720720) (sym pick_at) (picked_parts (tags_held t) f (sym e)).2
 
 -- What a question finds of flow f.
 module _ (t : Tags) (f : ℕ) where
   pub stamp_found :
       (s : Stamp) → Some s ≡ stamp_of (tags_held t) f
       → (f < length (tags_held t).stamps) × (s ≡ stamp_at (tags_held t).stamps f)
-  stamp_found s e = split (nat_lt f (length (tags_held t).stamps)) refl
-    where
-      split :
-          (b : Bool) → nat_lt f (length (tags_held t).stamps) ≡ b
-          → (f < length (tags_held t).stamps) × (s ≡ stamp_at (tags_held t).stamps f)
-      split true q =
-          let g : Some s ≡ Some (stamp_at (tags_held t).stamps f) = rw q at e in
-          let r : s ≡ stamp_at (tags_held t).stamps f = cc in
-          (ltb-true _ _ q, r)
-      split false q = let g : Some s ≡ None = rw q at e in let no : ◌≡◌ {A = ℕ} 0 1 = cc in absurd (omega arith)
+  stamp_found s e = grind (arith, nat_tests)
 
-  pub none_not_due : None ≡ stamp_of (tags_held t) f → (stamp_at (tags_held t).stamps f).due ≡ false
-  none_not_due e = split (nat_lt f (length (tags_held t).stamps)) refl
-    where
-      split : (b : Bool) → nat_lt f (length (tags_held t).stamps) ≡ b → (stamp_at (tags_held t).stamps f).due ≡ false
-      split true q =
-          let g : None ≡ Some (stamp_at (tags_held t).stamps f) = rw q at e in
-          let no : ◌≡◌ {A = ℕ} 0 1 = cc in
-          absurd (omega arith)
-      split false q = ap is_due (get_or_past (tags_held t).stamps f no_stamp (ltb-false _ _ q))
+  pub none_outside : None ≡ stamp_of (tags_held t) f → length (tags_held t).stamps ≤ f
+  none_outside e = grind (arith, nat_tests)
 
   -- the weight of the others
   pub others_weight :

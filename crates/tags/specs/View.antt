@@ -1,14 +1,20 @@
 -- What a value of the code holds, and what is made of a table.
-use Rattle.std.specs.Prelude.{◌≡◌, take, Some, None, Option}
+use Rattle.std.specs.Prelude.{◌≡◌, ℕ, cond, take, Some, None, Option}
 use Rattle.table.specs.Layout.{kind_of, lookahead_of, flow_lines}
 use Rattle.table.specs.declared.line.Kind.TheVariants.{RoundRobin, Tags as OfTags}
 use Rattle.table.specs.declared.Table.{Table}
 use Rattle.tags.specs.declared.Tags.{Tags}
-use Rattle.tag_rule.specs.Rule.{Clock, start}
+use Rattle.tag_rule.specs.declared.entry.Entry.{Entry}
+use Rattle.tag_rule.specs.Rule.{Clock, stamp_at, start, eligible, finish_tag}
 use Rattle.tag_rule.specs.Tags.{Tagged, seen, Follows}
 
 abbrev pub tags_held : Tags → Tagged
 tags_held t = record { stamps = take t.count t.stamps; lookahead = t.lookahead }
+
+-- the entry of a flow, if it is eligible
+abbrev pub entry_of : Tagged → ℕ → Option Entry
+entry_of h f =
+    cond (eligible 0 h.lookahead (stamp_at h.stamps f)) (Some (record { finish = finish_tag (stamp_at h.stamps f); flow = f })) None
 
 -- the clock that a table starts
 abbrev pub table_clock : Table → Clock

@@ -1,37 +1,20 @@
 ghost use Rattle.std.specs.Prelude.{◌≡◌};
-ghost use Rattle.tag_rule.specs.Tags.{stamp_of, switching, held_after, tags};
+ghost use Rattle.tag_rule.specs.Tags.{held_after, switching, tags};
 ghost use Rattle.tags.specs.View.{tags_held};
 ghost use Rattle.tag_rule.proofs.Laws.{tags_lawful};
 ghost use Rattle.tags.specs.Stored.{held_sound};
 
 use crate::Tags;
-use crate::pick::take_turn;
-use crate::time::settle;
 use reference::Reference;
 use tag_rule::stamp::Stamp;
 
 impl Tags {
-    /// What is held of a flow; none past the last flow.
-    fn stamp(&self, flow: u8) -> Option<Stamp>
-        ensures { result ≡ stamp_of (tags_held self.now) flow }
-    {
-        if flow >= self.count {
-            return None;
-        }
-        Some(self.stamps[flow as usize])
-    }
-
     /// Makes a flow due, or not due. An entering flow's tag is at least virtual time already: settling saw to it.
     fn switch(&mut self, flow: u8, due: bool)
         ensures { tags_held self.new ≡ held_after (tags_held self.old) (switching due flow) }
     {
-        if flow < self.count {
-            let mut stamps = self.stamps;
-            let mut stamp = stamps[flow as usize];
-            stamp.due = due;
-            stamps[flow as usize] = stamp;
-            settle(&mut stamps[..self.count as usize]);
-            self.stamps = stamps;
+        if let Some(stamp) = self.stamp(flow) {
+            self.put(flow, Stamp { due, ..stamp });
         }
     }
 }
@@ -50,8 +33,7 @@ impl Reference for Tags {
     }
 
     fn weight(&self, flow: u8) -> Option<u32> {
-        let stamp = self.stamp(flow)?;
-        Some(u32::from(stamp.weight))
+        self.stamp(flow).map(|stamp| u32::from(stamp.weight))
     }
 
     fn allowance(&self, flow: u8) -> Option<u32> {
@@ -67,10 +49,7 @@ impl Reference for Tags {
     }
 
     fn is_due(&self, flow: u8) -> bool {
-        match self.stamp(flow) {
-            None => false,
-            Some(stamp) => stamp.due,
-        }
+        self.stamp(flow).is_some_and(|stamp| stamp.due)
     }
 
     fn enter(&mut self, flow: u8) {
@@ -82,9 +61,8 @@ impl Reference for Tags {
     }
 
     fn turn(&mut self) -> Option<u8> {
-        let mut stamps = self.stamps;
-        let mark = take_turn(&mut stamps[..self.count as usize], self.lookahead);
-        self.stamps = stamps;
-        mark
+        let flow = self.pick()?;
+        self.charge(flow);
+        Some(flow)
     }
 }

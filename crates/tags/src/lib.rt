@@ -10,6 +10,7 @@ ghost use Rattle.tag_rule.specs.Tags.{KeptBelow, advance, weight_of};
 use tag_rule::stamp::Stamp;
 
 mod calls;
+mod flows;
 mod of;
 mod pick;
 mod time;

@@ -4,11 +4,10 @@
 #![tactic(auto)]
 
 use crate::rounds_text::RoundsText;
+use input::read_table;
 use rounds::two_rounds;
 use std::io;
-use std::io::Read;
 use table_reference::TableReference;
-use wire::Table;
 use words::FaultText;
 
 mod rounds_text;
@@ -16,12 +15,7 @@ mod rounds_text;
 mod tests;
 
 fn main(rt: HostRuntime) -> io::Result<()> {
-    let mut input = Vec::new(rt.alloc());
-    let _ = rt
-        .stdin()
-        .take(Table::deciding_bytes())
-        .read_to_end(&mut input)?;
-    match Table::read(&input) {
+    match read_table(rt.alloc(), rt.stdin())? {
         Ok(table) => {
             let mut reference = TableReference::of(&table);
             let marks = two_rounds(rt.alloc(), &mut reference)?;

@@ -3,7 +3,7 @@ use rounds::{count_marks, fewest_marks};
 use std::fmt;
 use table_reference::TableReference;
 use wire::Table;
-use words::KindText;
+use words::SetupText;
 
 /// What the turns of two rounds marked, in lines for people.
 #[derive(Clone, Copy)]
@@ -24,45 +24,36 @@ fn write_marks<W: fmt::Write>(f: &mut fmt::Formatter<W>, marks: &[Option<u8>]) -
     f.write_str("\n")
 }
 
-/// One flow in a line: its marks against its share of two rounds, which is twice its weight, and the fewest marks that its
-/// allowance leaves it.
-fn write_flow<W: fmt::Write>(
-    f: &mut fmt::Formatter<W>,
-    flow: u8,
-    reference: &TableReference,
-    marks: &[Option<u8>],
-) -> fmt::Result {
-    let weight = reference.weight(flow).unwrap_or(0);
-    let allowance = reference.allowance(flow).unwrap_or(0);
-    let share = 2 * u64::from(weight);
-    let marked = count_marks(marks, flow);
-    let turns = u32::try_from(marks.len()).unwrap_or(u32::MAX);
-    let fewest = fewest_marks(turns, weight, reference.total_weight(), allowance).unwrap_or(0);
-    writeln!(
-        f,
-        "{flow:>4}  {weight:>6}  {marked:>5}  {share:>5}  {allowance:>9}  {fewest:>6}"
-    )
+impl<'a> RoundsText<'a> {
+    /// One flow in a line: its marks against its share of two rounds, which is twice its weight, and the fewest marks that
+    /// its allowance leaves it.
+    fn write_flow<W: fmt::Write>(&self, f: &mut fmt::Formatter<W>, flow: u8) -> fmt::Result {
+        let weight = self.reference.weight(flow).unwrap_or(0);
+        let allowance = self.reference.allowance(flow).unwrap_or(0);
+        let share = 2 * u64::from(weight);
+        let marked = count_marks(self.marks, flow);
+        let turns = u32::try_from(self.marks.len()).unwrap_or(u32::MAX);
+        let total = self.reference.total_weight();
+        let fewest = fewest_marks(turns, weight, total, allowance).unwrap_or(0);
+        writeln!(
+            f,
+            "{flow:>4}  {weight:>6}  {marked:>5}  {share:>5}  {allowance:>9}  {fewest:>6}"
+        )
+    }
 }
 
 impl<'a> fmt::Display for RoundsText<'a> {
     fn fmt<W: fmt::Write>(&self, f: &mut fmt::Formatter<W>) -> fmt::Result {
-        let kind = KindText(self.table.kind());
-        let lookahead = self.table.lookahead();
-        let flows = self.reference.flow_count();
-        let total = self.reference.total_weight();
+        let setup = SetupText(self.table);
         let turns = self.marks.len();
-        write!(
-            f,
-            "kind          {kind}\nlookahead     {lookahead}\nflows         {flows}\ntotal weight  {total}\nturns         {turns}\n\n"
-        )?;
-        let half = turns / 2;
-        f.write_str("round 1 ")?;
-        write_marks(f, &self.marks[..half])?;
+        write!(f, "{setup}turns         {turns}\n\nround 1 ")?;
+        let (first, second) = self.marks.split_at(turns / 2);
+        write_marks(f, first)?;
         f.write_str("round 2 ")?;
-        write_marks(f, &self.marks[half..])?;
+        write_marks(f, second)?;
         f.write_str("\nflow  weight  marks  share  allowance  fewest\n")?;
-        for flow in 0..flows {
-            write_flow(f, flow, self.reference, self.marks)?;
+        for flow in 0..self.reference.flow_count() {
+            self.write_flow(f, flow)?;
         }
         Ok(())
     }

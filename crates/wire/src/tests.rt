@@ -17,21 +17,18 @@ fn reads_and_writes_back(rt: &impl Abort, bytes: &[u8]) -> Result<Table, Fail> {
 #[test]
 fn tables_of_one_flow(rt: HostRuntime) -> Result<(), Fail> {
     let least = reads_and_writes_back(&rt, &[0, 8, 1, 1, 0, 1, 1, 0, 0, 0])?;
-    assert!(rt; least.kind() == Kind::RoundRobin);
+    assert_eq!(rt; least.kind(), Kind::RoundRobin);
     assert_eq!(rt; least.total_weight(), 1);
     let most = reads_and_writes_back(&rt, &[0, 8, 1, 2, 16, 1, 16, 16, 255, 255])?;
-    assert!(rt; most.kind() == Kind::Tags);
+    assert_eq!(rt; most.kind(), Kind::Tags);
     assert_eq!(rt; most.lookahead(), 16);
     Ok(())
 }
 
 /// Sets the delay weights of sixteen flows to 0.
 fn without_delay_weights(bytes: &mut [u8]) {
-    for flow in 0..16 {
-        let at = 7 + 4 * flow;
-        if at < bytes.len() {
-            bytes[at] = 0;
-        }
+    for delay_weight in bytes.iter_mut().skip(7).step_by(4) {
+        *delay_weight = 0;
     }
 }
 
@@ -50,7 +47,8 @@ fn tables_of_sixteen_flows(rt: HostRuntime) -> Result<(), Fail> {
     bytes[4] = 0;
     without_delay_weights(&mut bytes);
     let robin = reads_and_writes_back(&rt, &bytes)?;
-    assert!(rt; robin.kind() == Kind::RoundRobin && robin.flow_count() == 16);
+    assert_eq!(rt; robin.kind(), Kind::RoundRobin);
+    assert_eq!(rt; robin.flow_count(), 16);
     Ok(())
 }
 
@@ -83,17 +81,15 @@ const REFUSED_TABLES: [(&[u8], u8, u16, Layer); 12] = [
 #[test]
 fn faults_of_a_table(rt: HostRuntime) -> Result<(), Fail> {
     for (bytes, number, byte, layer) in REFUSED_TABLES.iter() {
-        match Table::read(bytes) {
-            Ok(_) => return Err(Fail::new("it was read")),
-            Err(fault) => {
-                let refusal = Refusal {
-                    number: *number,
-                    byte: *byte,
-                    layer: *layer,
-                };
-                assert_eq!(rt; fault.refusal(), refusal);
-            }
-        }
+        let Err(fault) = Table::read(bytes) else {
+            return Err(Fail::new("it was read"));
+        };
+        let refusal = Refusal {
+            number: *number,
+            byte: *byte,
+            layer: *layer,
+        };
+        assert_eq!(rt; fault.refusal(), refusal);
     }
     Ok(())
 }
@@ -137,10 +133,10 @@ const REFUSED_RECORDS: [(&[u8], u8); 8] = [
 #[test]
 fn faults_of_a_record(rt: HostRuntime) -> Result<(), Fail> {
     for (bytes, number) in REFUSED_RECORDS.iter() {
-        match Record::read(bytes) {
-            Ok(_) => return Err(Fail::new("it was read")),
-            Err(fault) => assert_eq!(rt; fault.number(), *number),
-        }
+        let Err(fault) = Record::read(bytes) else {
+            return Err(Fail::new("it was read"));
+        };
+        assert_eq!(rt; fault.number(), *number);
     }
     Ok(())
 }
@@ -149,10 +145,10 @@ fn faults_of_a_record(rt: HostRuntime) -> Result<(), Fail> {
 fn writing_without_room(rt: HostRuntime) -> Result<(), Fail> {
     let record = Record::read(&RECORDS[0])?;
     let mut out = [9; 12];
-    match record.write(&mut out, 1) {
-        Ok(_) => return Err(Fail::new("it was written")),
-        Err(fault) => assert_eq!(rt; fault.number(), 12),
-    }
+    let Err(fault) = record.write(&mut out, 1) else {
+        return Err(Fail::new("it was written"));
+    };
+    assert_eq!(rt; fault.number(), 12);
     assert_eq!(rt; out, [9; 12]);
     Ok(())
 }

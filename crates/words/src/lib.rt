@@ -1,9 +1,9 @@
-//! Words for people: the name of a kind, and what is wrong with a table.
+//! Lines for people that both programs print: what a table sets up, and what is wrong with it.
 
 #![tactic(auto)]
 
 mod fault_text;
-mod kind_text;
+mod setup_text;
 
 pub use fault_text::FaultText;
-pub use kind_text::KindText;
+pub use setup_text::SetupText;

@@ -1,15 +1,8 @@
-use Rattle.std.proofs.Common.{◌≡◌, true, sym, subst, arith, rules}
+use Rattle.std.proofs.Common.{◌≡◌, true, sym, subst, arith}
 use Rattle.reference.specs.Meaning.{SameNumbers}
 use Rattle.rounds.specs.Rounds.{entered_below}
-use Rattle.rounds.proofs.Entering.{entered_more, entered_numbers, entered_due}
+use Rattle.rounds.proofs.Entering.{entered_numbers, entered_due}
 use Rattle.rounds.proofs.enter_all.Goals as goal
-
-pub loop-flow-preserved : goal.loop-flow-preserved
-loop-flow-preserved g c =
-    let M = g.R.Reference.meaning in
-    let h = g.R.Reference.held c.args.reference.now in
-    let k = g.R.Reference.held c.loop-flow.reference in
-    entered_more M h k _ c.loop-flow.flow c.loop-flow.invariant (search rules)
 
 pub returns : goal.returns
 returns g c =

@@ -1,22 +1,20 @@
-use Rattle.std.proofs.Common.{◌≡◌, [], length, sym, subst, arith, rules}
+use Rattle.std.proofs.Common.{rules, add-one, ◌≡◌, [], length, sym, subst, arith}
 use Rattle.std.proofs.lemmas.List.{take_all}
 use Rattle.std.specs.List.{AllByRecursion}
 use Rattle.reference.specs.Calls.{marks_of, turns_then}
 use Rattle.reference.specs.Shares.{HasShare}
 use Rattle.reference.proofs.Shares.{gives_shares}
 use Rattle.rounds.specs.Rounds.{MarkIsDue}
-use Rattle.rounds.proofs.Turns.{turns_more, marks_more, turns_mark_due, turns_have_share}
+use Rattle.rounds.proofs.Turns.{marks_more, turns_mark_due, turns_have_share}
 use Rattle.rounds.proofs.take_turns.Goals as goal
 
 pub loop-place-preserved : goal.loop-place-preserved
 loop-place-preserved g c =
-    let M = g.R.Reference.meaning in
-    let h = g.R.Reference.held c.args.reference.now in
-    let k = g.R.Reference.held c.loop-place.reference in
     let i = c.loop-place.place-index in
-    let so_far = c.loop-place.invariant.0 in (
-      turns_more M h k i so_far _ (search rules),
-      marks_more M h k i so_far c.loop-place.marks _ (omega arith) c.loop-place.invariant.1 (search rules),
+    let M = g.R.Reference.meaning in
+    let h = g.R.Reference.held c.args.reference.now in (
+      rw (add-one i) (search rules),
+      marks_more M h i c.loop-place.marks _ (omega arith) c.loop-place.invariant.1 (search rules),
     )
 
 pub returns : goal.returns

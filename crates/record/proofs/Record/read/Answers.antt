@@ -1,12 +1,5 @@
-use Rattle.std.proofs.Common.{sym, subst}
-use Rattle.record.specs.Refusals.{RecordRead}
 use Rattle.record.proofs.Reading.{record_read_back}
 use Rattle.record.proofs.Record.read.Goals as goal
 
-pub returns : goal.returns
-returns c =
-    record {
-      exact = c.decoded.ensures;
-      undoes_writing =
-          λ s e. record_read_back s c.decoded.result (subst (λ b. RecordRead b c.decoded.result) (sym e) c.decoded.ensures);
-    }
+pub returns-clause-undoes_writing : goal.returns-clause-undoes_writing
+returns-clause-undoes_writing c s e = record_read_back s c.decoded.result (rw e c.decoded.ensures)

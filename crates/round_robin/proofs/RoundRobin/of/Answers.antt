@@ -1,7 +1,8 @@
-use Rattle.std.proofs.Common.{◌≡◌, map, take, ap, rules}
+use Rattle.std.proofs.Common.{take, sym, ap, ◌∙◌, arith}
+use Rattle.std.proofs.lemmas.Slice.Zip.{AllZip-map}
+use Rattle.reference.specs.Flows.{sum}
 use Rattle.table.specs.Layout.{flow_lines}
-use Rattle.table.proofs.InRange.{flow_lines_length}
-use Rattle.round_robin.specs.RoundRobin.{fresh, pointing_at}
+use Rattle.round_robin.specs.RoundRobin.{pointing_at, weight_of, fresh}
 use Rattle.round_robin.proofs.InTurn.{marks_in_turn}
 use Rattle.round_robin.specs.Held.{start_kept, start_summed}
 use Rattle.round_robin.proofs.RoundRobin.of.Goals as goal
@@ -9,28 +10,23 @@ use Rattle.round_robin.proofs.RoundRobin.of.Goals as goal
 pub invariant_of-result : goal.invariant_of-result
 invariant_of-result c =
     let t = c.args.table.now in
-    let qs = c.fresh_quotas.result in
+    let qs = c.per_flow.result in
     let count = c.flow_count.ensures in
-    let lines = c.lines.ensures in
-    let long = flow_lines_length t in
-    let made = c.fresh_quotas.ensures in
-    let e : take t.flow_count qs ≡ map fresh (flow_lines t) = cc in
-    let total = start_summed t qs e in
+    let made = AllZip-map fresh (flow_lines t) (take t.flow_count qs) c.per_flow.ensures.made in
     record {
-      sized = search rules;
-      some = search rules;
-      few = search rules;
-      points = search rules;
-      kept = rw count (start_kept t qs e);
-      summed = cc;
+      sized = omega arith;
+      some = rw count t.some;
+      few = rw count t.few;
+      points = rw count t.some;
+      kept = rw count (start_kept t qs made);
+      summed =
+          c.total_weight.ensures.exact
+          ∙ (start_summed t qs made ∙ ap (λ n. sum weight_of (take n qs)) (sym count));
     }
 
 pub returns : goal.returns
 returns c =
     let t = c.args.table.now in
     let count = c.flow_count.ensures in
-    let lines = c.lines.ensures in
-    let long = flow_lines_length t in
-    let made = c.fresh_quotas.ensures in
-    let e : take c.flow_count.result c.fresh_quotas.result ≡ map fresh (flow_lines t) = cc in
-    record { starts = ap (pointing_at 0) e; in_turn = marks_in_turn }
+    let made = AllZip-map fresh (flow_lines t) (take t.flow_count c.per_flow.result) c.per_flow.ensures.made in
+    record { starts = rw count (ap (pointing_at 0) made); in_turn = marks_in_turn }

@@ -1,33 +1,11 @@
-use Rattle.std.proofs.Common.{◌∙◌}
-use Rattle.tag_rule.specs.Tags.{switching}
-use Rattle.tags.specs.Stored.{stored, stored_holds, switched, switched_sized, switched_settled, switched_outside}
+use Rattle.std.proofs.Common.{◌∙◌, sym}
+use Rattle.tag_rule.proofs.Laws.{switched_is, switch_past}
+use Rattle.tags.specs.View.{tags_held}
+use Rattle.tags.specs.Stored.{held_sound, none_outside}
 use Rattle.tags.proofs.Tags.switch.Goals as goal
 
-pub invariant_of-self : goal.invariant_of-self
-invariant_of-self c =
+pub returns-in_default : goal.returns-in_default
+returns-in_default c =
     let t = c.args.self.now in
-    let b = c.args.due in
-    let f = c.args.flow in
-    let r
-    = stored c.args.self.now (switching c.args.due c.args.flow) (switched b t f) c.settle.new.stamps (switched_sized b t f)
-    (c.settle.ensures ∙ switched_settled b t f c.if-flow-self.true) in
-    record {
-      sized = r.sized;
-      some = t.some;
-      few = t.few;
-      looks = t.looks;
-      kept = r.kept;
-      on_time = r.on_time;
-      summed = r.summed;
-    }
-
-pub returns-then-flow-self : goal.returns-then-flow-self
-returns-then-flow-self c =
-    let t = c.args.self.now in
-    let b = c.args.due in
-    let f = c.args.flow in
-    stored_holds c.args.self.now (switching c.args.due c.args.flow) (switched b t f) c.settle.new.stamps (switched_sized b t f)
-    (c.settle.ensures ∙ switched_settled b t f c.if-flow-self.true)
-
-pub returns-else-flow-self : goal.returns-else-flow-self
-returns-else-flow-self c = switched_outside c.args.due c.args.self.now c.args.flow c.if-flow-self.false
+    let outside = none_outside t c.args.flow (sym c.in_default.is ∙ c.stamp.ensures) in
+    sym (switched_is c.args.due (tags_held t) c.args.flow ∙ switch_past c.args.due (tags_held t) c.args.flow (held_sound t) outside)

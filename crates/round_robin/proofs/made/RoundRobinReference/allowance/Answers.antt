@@ -5,13 +5,10 @@ use Rattle.round_robin.proofs.made.RoundRobinReference.allowance.Goals as goal
 
 pub overflow_sub-rest : goal.overflow_sub-rest
 overflow_sub-rest c =
-    let r = c.args.self.now in
-    let within = weight_in_total (robin_held r) c.args.flow _ c.in_ok-quota.ensures in
-    omega (arith, within, r.summed)
+    let within = weight_in_total (robin_held c.args.self.now) c.args.flow _ c.in_ok-quota.ensures in
+    omega (arith, within)
 
 pub returns : goal.returns
 returns c =
-    let r = c.args.self.now in
-    let told = allowance_told (robin_held r) c.args.flow _ c.in_ok-quota.ensures in
-    let total = r.summed in
-    search (rules, told, total)
+    let told = allowance_told (robin_held c.args.self.now) c.args.flow _ c.in_ok-quota.ensures in
+    search (rules, told)

@@ -1,24 +1,35 @@
-use Rattle.std.proofs.Common.{rules}
-use Rattle.round_robin.specs.Held.{held_sound, turn_sized, turn_points, turn_kept, turn_summed, turn_held}
+use Rattle.std.proofs.Common.{Some, refl, ap, ◌∙◌, arith, rules}
+use Rattle.round_robin.specs.RoundRobin.{after_mark}
+use Rattle.round_robin.specs.View.{robin_held}
+use Rattle.round_robin.specs.Held.{set_kept, set_summed, mark_inside, mark_kept, mark_held, turn_marks, turn_leaves}
 use Rattle.round_robin.proofs.made.RoundRobinReference.turn.Goals as goal
 
-pub take_turn-mark-requires : goal.take_turn-mark-requires
-take_turn-mark-requires c = held_sound c.args.self.now
+pub overflow_add-self : goal.overflow_add-self
+overflow_add-self c =
+    let found = ap (λ f. Some f) c.from.ensures ∙ c.in_ok-flow.ensures.first in
+    let kept = mark_kept c.renew.new.self c.from.result found in
+    omega (arith, kept.1, kept.2)
 
-pub invariant_of-self : goal.invariant_of-self
-invariant_of-self c =
-    let r = c.args.self.now in
-    let e = c.take_turn-mark.ensures.after in
-    record {
-      sized = turn_sized r _ _ e;
-      some = r.some;
-      few = r.few;
-      points = turn_points r _ _ e;
-      kept = turn_kept r _ _ e;
-      summed = turn_summed r _ _ e;
-    }
+pub invariant_of-self-clause-kept : goal.invariant_of-self-clause-kept
+invariant_of-self-clause-kept c =
+    let r = c.renew.new.self in
+    let found = ap (λ f. Some f) c.from.ensures ∙ c.in_ok-flow.ensures.first in
+    set_kept r c.from.result (mark_inside r c.from.result found) _ (mark_kept r c.from.result found)
+
+pub invariant_of-self-clause-summed : goal.invariant_of-self-clause-summed
+invariant_of-self-clause-summed c =
+    let r = c.renew.new.self in
+    let found = ap (λ f. Some f) c.from.ensures ∙ c.in_ok-flow.ensures.first in
+    set_summed r c.from.result (mark_inside r c.from.result found) _ refl
 
 pub returns : goal.returns
 returns c =
-    let held = turn_held c.args.self.now _ _ c.take_turn-mark.ensures.after in
-    record { mark = search rules; after = search (rules, held) }
+    let r = c.renew.new.self in
+    let h = robin_held c.args.self.now in
+    let k = robin_held r in
+    let found = c.in_ok-flow.ensures.first in
+    let mark = found ∙ turn_marks h k c.renew.ensures in
+    let after
+    = mark_held r c.in_ok-flow.flow found
+    ∙ (ap (after_mark k.quotas k.pointer) found ∙ turn_leaves h k c.renew.ensures) in
+    record { mark = search (rules, mark); after = search (rules, after) }

@@ -1,0 +1,25 @@
+//! A table from a stream of bytes, as programs read it.
+
+#![tactic(auto)]
+
+ghost use Rattle.std.specs.Prelude.{IfOk, IfSome};
+ghost use Rattle.octets.specs.BigEndian.{Bytes};
+ghost use Rattle.table.specs.Refusals.{TableRead};
+
+use std::alloc::Global;
+use std::io;
+use std::io::Read;
+use wire::{LineFault, Table};
+
+#[cfg(test)]
+mod tests;
+
+/// Reads a table from all that is left of an input, or tells what is wrong with it. Of a long input it reads no more than
+/// decides. Where the input fails, or memory is wanting, there is nothing to tell.
+pub fn read_table<R: Read + Drop>(alloc: Global, input: R) -> io::Result<Result<Table, LineFault>>
+    ensures { IfOk result (λ table. IfSome (R.remaining input) (λ bytes. Bytes bytes → TableRead bytes table)) }
+{
+    let mut bytes = Vec::new(alloc);
+    let _ = input.take(Table::deciding_bytes()).read_to_end(&mut bytes)?;
+    Ok(Table::read(&bytes))
+}

@@ -1,0 +1,65 @@
+use Rattle.std.proofs.Common.{◌≡◌, take, get_or, sym, ap, ◌∙◌, arith, rules, tests}
+use Rattle.std.proofs.lemmas.Iterator.{YieldsList-from_slice}
+use Rattle.std.proofs.lemmas.Iterator.Search.{any_from_yields_List}
+use Rattle.std.proofs.lemmas.List.Edits.{map_over_more}
+use Rattle.std.proofs.lemmas.List.{get_or_default}
+use Rattle.reference.specs.Flows.{some}
+use Rattle.round_robin.specs.RoundRobin.{no_quota, pointing_at, unused, is_due, ready}
+use Rattle.round_robin.specs.Rounds.{renewed_anew, renewed_none_due, renewed_some_ready}
+use Rattle.round_robin.specs.Held.{reset_all, reset_kept, reset_front, reset_summed}
+use Rattle.round_robin.proofs.Searches.{list_any_some}
+use Rattle.round_robin.proofs.RoundRobin.renew.Goals as goal
+use Rattle.round_robin.proofs.RoundRobin.renew.Goals.{else-any-via-then-any+else-not-any, else-any-via-else-any}
+
+pub invariant_of-self-clause-kept : goal.invariant_of-self-clause-kept
+invariant_of-self-clause-kept c =
+    let r = c.args.self.now in
+    rw (reset_all r _ _ c.loop-quota-test.false c.loop-quota.invariant.1) (reset_kept r)
+
+pub invariant_of-self-clause-summed : goal.invariant_of-self-clause-summed
+invariant_of-self-clause-summed c =
+    let r = c.args.self.now in
+    rw (reset_all r _ _ c.loop-quota-test.false c.loop-quota.invariant.1) (reset_summed r)
+
+pub loop-quota-preserved : goal.loop-quota-preserved
+loop-quota-preserved c =
+    let qs = c.loop-quota.quota-items in
+    let i = c.loop-quota.quota-index in
+    let long = c.loop-quota.invariant.0 in
+    let same = get_or_default qs i no_quota (get_or qs i no_quota) (omega (arith, long)) in
+    let more
+    = map_over_more unused c.args.self.now.quotas qs i (get_or qs i no_quota)
+    (omega (arith, c.args.self.now.sized))
+    c.loop-quota.invariant.1 same in
+    search (rules, more, long)
+
+pub returns-after-loop-quota : goal.returns-after-loop-quota
+returns-after-loop-quota c =
+    let r = c.args.self.now in
+    let qs = take r.count r.quotas in
+    let due : c.any.result ≡ some is_due qs =
+    any_from_yields_List is_due _ _ _ c.any.ensures.ran (YieldsList-from_slice qs cc) (λ x b q k. search (rules, tests))
+    ∙ list_any_some is_due qs in
+    let waiting : c.any-then-any.result ≡ some ready qs =
+    any_from_yields_List ready _ _ _ c.any-then-any.ensures.ran (YieldsList-from_slice qs cc) (λ x b q k. search (rules, tests))
+    ∙ list_any_some ready qs in
+    let anew = renewed_anew qs (sym due ∙ c.if-any.true) (sym waiting ∙ c.if-not-any.true) in
+    let done = reset_all r _ _ c.loop-quota-test.false c.loop-quota.invariant.1 in
+    rw done (ap (pointing_at r.pointer) (reset_front r ∙ sym anew))
+
+pub returns-else-any : goal.returns-else-any
+returns-else-any c =
+    let r = c.args.self.now in
+    let qs = take r.count r.quotas in
+    let due : c.any.result ≡ some is_due qs =
+    any_from_yields_List is_due _ _ _ c.any.ensures.ran (YieldsList-from_slice qs cc) (λ x b q k. search (rules, tests))
+    ∙ list_any_some is_due qs in
+    elim c.else-any.branch [
+      | else-any-via-then-any+else-not-any w ↦
+          let waiting : w.any-then-any.result ≡ some ready qs =
+          any_from_yields_List ready _ _ _ w.any-then-any.ensures.ran (YieldsList-from_slice qs cc) (λ x b q k. search (rules, tests))
+          ∙ list_any_some ready qs in
+          ap (pointing_at r.pointer) (sym (renewed_some_ready qs (sym waiting ∙ w.if-not-any.false)))
+      | else-any-via-else-any w ↦
+          ap (pointing_at r.pointer) (sym (renewed_none_due qs (sym due ∙ w.if-any.false)))
+    ]

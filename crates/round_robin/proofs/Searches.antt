@@ -1,0 +1,61 @@
+-- What the searches of the library find, in the words of a reference.
+use Rattle.std.proofs.Common.{◌≡◌, ℕ, suc, ◌+◌, ◌-◌, ◌<◌, ◌≤◌, Bool, ◌||◌, List, [], ◌∷◌, ◌++◌, length, get_or, take, drop, Some, None, Option, sym, refl, ap, ◌∙◌, arith, add-zero, zero-add, length-drop, length-take}
+use Rattle.std.specs.Option.{option_map, option_or}
+use Rattle.std.specs.List.{list_any, find, range_with_len}
+use Rattle.std.proofs.lemmas.List.{get_or-drop, get_or-take, length-take-le}
+use Rattle.std.proofs.lemmas.List.Folds.{find-append}
+use Rattle.std.proofs.lemmas.Iterator.Adapters.{option_map_id}
+use Rattle.reference.specs.Flows.{some, first, or_else, around}
+
+pub list_any_some : {A : Type 0} (p : A → Bool) (xs : List A) → list_any p xs ≡ some p xs
+list_any_some p [] = refl
+list_any_some p (x ∷ xs) = ap (λ b. p x || b) (list_any_some p xs)
+
+option_or_or_else : (a b : Option ℕ) → option_or a b ≡ or_else a b
+option_or_or_else None b = refl
+option_or_or_else (Some x) b = refl
+
+-- a search of numbers that asks the test of the flow of each number
+module _ {A : Type 0} (p : A → Bool) (d : A) (test : ℕ → Bool) where
+  find_first :
+      (i : ℕ) (xs : List A)
+      → ((k : ℕ) → k < length xs → test (i + k) ≡ p (get_or xs k d))
+      → find test (range_with_len i (length xs)) ≡ first p i xs
+  find_first i [] h = refl
+  find_first i (x ∷ xs) h =
+      let e : test i ≡ p x = ap test (sym (add-zero i)) ∙ h 0 (omega arith) in
+      let more : find test (range_with_len (i + 1) (length xs)) ≡ first p (i + 1) xs =
+      find_first (i + 1) xs
+      (λ k l. let s : i + 1 + k ≡ i + suc k = omega arith in ap test s ∙ h (suc k) (omega arith)) in
+      rw (e, more)
+
+  find_around :
+      (i : ℕ) (xs : List A) → i ≤ length xs
+      → ((f : ℕ) → f < length xs → test f ≡ p (get_or xs f d))
+      → find test (range_with_len i (length xs - i) ++ range_with_len 0 i) ≡ around p i xs
+  find_around i xs le h =
+      let upward : find test (range_with_len i (length (drop i xs))) ≡ first p i (drop i xs) =
+      find_first i (drop i xs)
+      (λ k l. h (i + k) (omega (arith, length-drop i xs)) ∙ ap p (sym (get_or-drop i xs k d))) in
+      let below : find test (range_with_len 0 (length (take i xs))) ≡ first p 0 (take i xs) =
+      find_first 0 (take i xs)
+      (λ k l.
+      let b : k < i = omega (arith, length-take i xs) in
+      ap test (zero-add k) ∙ (h k (omega arith) ∙ ap p (sym (get_or-take i xs k d b)))) in
+      let n : length (take i xs) ≡ i = length-take-le i xs le in
+      let m : length (drop i xs) ≡ length xs - i = length-drop i xs in
+      let split = find-append test (range_with_len i (length xs - i)) (range_with_len 0 i) in
+      let joined = option_or_or_else (first p i (drop i xs)) (first p 0 (take i xs)) in
+      cc
+
+  -- what a search of the numbers from i upward and then of those below i has found
+  pub found_around :
+      (o : Option ℕ) (i : ℕ) (xs : List A) (n : ℕ)
+      → option_map (λ f. f) o ≡ find test (range_with_len i (n - i) ++ range_with_len 0 i)
+      → n ≡ length xs → i ≤ length xs
+      → ((f : ℕ) → f < length xs → test f ≡ p (get_or xs f d))
+      → o ≡ around p i xs
+  found_around o i xs n e long le h =
+      sym (option_map_id o)
+      ∙ (e
+      ∙ (ap (λ m. find test (range_with_len i (m - i) ++ range_with_len 0 i)) long ∙ find_around i xs le h))

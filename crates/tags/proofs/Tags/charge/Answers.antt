@@ -1,0 +1,23 @@
+use Rattle.std.proofs.Common.{ap, arith}
+use Rattle.tag_rule.specs.Tags.{weight_of}
+use Rattle.tags.specs.Stored.{pick_below, pick_at, pick_kept, pick_tag}
+use Rattle.tags.proofs.Tags.charge.Goals as goal
+
+pub bounds-self-from : goal.bounds-self-from
+bounds-self-from c = omega (arith, c.from.ensures, pick_below c.args.self.now _ _ c.from.ensures c.requires, c.args.self.now.few)
+
+pub nonzero_div-tag : goal.nonzero_div-tag
+nonzero_div-tag c = omega (arith, c.from-2.ensures, (pick_kept c.args.self.now _ _ c.from.ensures c.requires).0)
+
+pub overflow_add-tag : goal.overflow_add-tag
+overflow_add-tag c = omega (arith, pick_tag c.args.self.now _ _ c.from.ensures c.requires, c.args.self.now.looks)
+
+pub put-requires : goal.put-requires
+put-requires c =
+    let k = pick_kept c.args.self.now _ _ c.from.ensures c.requires in
+    let tag = pick_tag c.args.self.now _ _ c.from.ensures c.requires in
+    record {
+      inside = pick_below c.args.self.now _ _ c.from.ensures c.requires;
+      same_weight = ap weight_of (pick_at c.args.self.now _ _ c.from.ensures c.requires);
+      kept = (k.0, k.1, k.2, k.3, rw c.from-2.ensures (omega (arith, tag)));
+    }
