@@ -1,3 +1,5 @@
+ghost use Rattle.std.specs.Prelude.{◌<◌};
+
 use percent::tenths_of_percent;
 use std::fmt;
 use wire::{Line, Table};
@@ -7,26 +9,30 @@ use words::SetupText;
 #[derive(Clone, Copy)]
 pub struct TableText(pub Table);
 
-/// One flow in a line, each number below its heading.
-fn write_flow<W: fmt::Write>(
-    f: &mut fmt::Formatter<W>,
-    flow: usize,
-    line: &Line,
-    total: u16,
-) -> fmt::Result {
-    let Line {
-        weight,
-        delay_weight,
-        lag_limit,
-        lead_limit,
-    } = *line;
-    let tenths = tenths_of_percent(u32::from(weight), u32::from(total)).unwrap_or(0);
-    let whole = tenths / 10;
-    let rest = tenths % 10;
-    writeln!(
-        f,
-        "{flow:>4}  {weight:>6}  {delay_weight:>12}  {lag_limit:>9}  {lead_limit:>10}  {weight:>3}/{total:<3}  {whole:>3}.{rest} %"
-    )
+impl TableText {
+    /// One flow in a line, each number below its heading, and its share of the total weight.
+    fn write_flow<W: fmt::Write>(
+        f: &mut fmt::Formatter<W>,
+        flow: usize,
+        line: &Line,
+        total: u16,
+    ) -> fmt::Result
+        requires { 0 < total }
+    {
+        let Line {
+            weight,
+            delay_weight,
+            lag_limit,
+            lead_limit,
+        } = *line;
+        let tenths = tenths_of_percent(u32::from(weight), u32::from(total)).unwrap();
+        let whole = tenths / 10;
+        let rest = tenths % 10;
+        writeln!(
+            f,
+            "{flow:>4}  {weight:>6}  {delay_weight:>12}  {lag_limit:>9}  {lead_limit:>10}  {weight:>3}/{total:<3}  {whole:>3}.{rest} %"
+        )
+    }
 }
 
 impl fmt::Display for TableText {
@@ -36,8 +42,9 @@ impl fmt::Display for TableText {
             f,
             "{setup}\nflow  weight  delay weight  lag limit  lead limit  share of slots\n"
         )?;
+        let total = self.0.total_weight();
         for (flow, line) in self.0.lines().iter().enumerate() {
-            write_flow(f, flow, line, self.0.total_weight())?;
+            TableText::write_flow(f, flow, line, total)?;
         }
         Ok(())
     }

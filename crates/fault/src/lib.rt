@@ -35,8 +35,11 @@ impl fmt::Display for Layer {
 /// first wrong byte (from 0, the length among them) and the layer.
 #[derive(Clone, Copy, PartialEq, Eq, Debug)]
 pub struct Refusal {
+    /// The number of the refusal.
     pub number: u8,
+    /// The first wrong byte, from 0.
     pub byte: u16,
+    /// The layer that the fault lies in.
     pub layer: Layer,
 }
 
@@ -65,6 +68,7 @@ pub enum FrameFault {
 /// What is wrong with a table up to its header.
 #[derive(Clone, Copy, PartialEq, Eq, Debug, Error)]
 pub enum HeaderFault {
+    /// A fault of the frame.
     #[error(transparent)]
     Frame(FrameFault),
     /// An unknown kind.
@@ -78,9 +82,10 @@ pub enum HeaderFault {
     FlowCount,
 }
 
-/// What is wrong with a table.
+/// What is wrong with a table, in whichever part of it.
 #[derive(Clone, Copy, PartialEq, Eq, Debug, Error)]
 pub enum LineFault {
+    /// A fault of the frame or the header.
     #[error(transparent)]
     Header(HeaderFault),
     /// The weight of this flow.
@@ -91,6 +96,7 @@ pub enum LineFault {
     DelayWeight(u8),
 }
 
+// Written out, these two: thiserror's `#[from]` has no contract, and clauses name the fault that `?` makes.
 impl From<FrameFault> for HeaderFault {
     ghost from_gives = { λ e r. r ≡ Frame e };
 

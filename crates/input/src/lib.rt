@@ -2,8 +2,7 @@
 
 #![tactic(auto)]
 
-ghost use Rattle.std.specs.Prelude.{IfOk, IfSome};
-ghost use Rattle.octets.specs.BigEndian.{Bytes};
+ghost use Rattle.std.specs.Prelude.{◌≡◌, ℕ, List, take, IfOk, IfSome};
 ghost use Rattle.table.specs.Refusals.{TableRead};
 
 use std::alloc::Global;
@@ -14,12 +13,19 @@ use wire::{LineFault, Table};
 #[cfg(test)]
 mod tests;
 
+/// What is read of any input that has these bytes in front, of which they are as many as decide.
+fn read_front(front: &[u8]) -> Result<Table, LineFault>
+    ensures { (bytes : List ℕ) → take 65538 bytes ≡ front.now → TableRead bytes result }
+{
+    Table::read(front)
+}
+
 /// Reads a table from all that is left of an input, or tells what is wrong with it. Of a long input it reads no more than
 /// decides. Where the input fails, or memory is wanting, there is nothing to tell.
 pub fn read_table<R: Read + Drop>(alloc: Global, input: R) -> io::Result<Result<Table, LineFault>>
-    ensures { IfOk result (λ table. IfSome (R.remaining input) (λ bytes. Bytes bytes → TableRead bytes table)) }
+    ensures { IfOk result (λ table. IfSome (R.remaining input) (λ bytes. TableRead bytes table)) }
 {
     let mut bytes = Vec::new(alloc);
-    let _ = input.take(Table::deciding_bytes()).read_to_end(&mut bytes)?;
-    Ok(Table::read(&bytes))
+    input.take(Table::deciding_bytes()).read_to_end(&mut bytes)?;
+    Ok(read_front(&bytes))
 }

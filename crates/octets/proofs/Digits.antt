@@ -1,25 +1,7 @@
 -- Big-endian numbers: reading undoes writing and writing undoes reading, for every width.
-use Rattle.std.proofs.Common.{◌≡◌, ℕ, zero, suc, ◌+◌, ◌*◌, ◌/◌, ◌%◌, ◌^◌, ◌<◌, ◌≤◌, List, [], ◌∷◌, length, get_or, sym, refl, ap, ◌∙◌, mul-le-mul_right, mod-lt, mod-eq_of_lt, mul_assoc, mul_comm, pow-suc, mul-add, arith}
+use Rattle.std.proofs.Common.{◌≡◌, ℕ, zero, suc, ◌+◌, ◌*◌, ◌/◌, ◌%◌, ◌^◌, ◌<◌, ◌≤◌, List, [], ◌∷◌, length, sym, refl, ap, ◌∙◌, mul-le-mul_right, mod-lt, mod-eq_of_lt, mul_assoc, mul_comm, pow-suc, mul-add, arith}
 use native.Mathlib.Nat.{one-le-pow, mod-one, div-add-mod, mul-add-div_right, div-eq_of_lt, mul-add-mod_self_right, mul-add-mod_self_left}
 use Rattle.octets.specs.BigEndian.{Bytes, be_number, be_bytes}
-
--- two and four bytes, one by one
-pub two_bytes : (bs : List ℕ) → length bs ≡ 2 → be_number bs ≡ get_or bs 0 0 * 256 + get_or bs 1 0
-two_bytes [] h = omega arith
-two_bytes (a ∷ []) h = omega arith
-two_bytes (a ∷ b ∷ []) h = omega arith
-two_bytes (a ∷ b ∷ c ∷ bs) h = omega arith
-
-pub four_bytes :
-    (bs : List ℕ)
-    → length bs ≡ 4
-    → be_number bs ≡ get_or bs 0 0 * 16777216 + get_or bs 1 0 * 65536 + get_or bs 2 0 * 256 + get_or bs 3 0
-four_bytes [] h = omega arith
-four_bytes (a ∷ []) h = omega arith
-four_bytes (a ∷ b ∷ []) h = omega arith
-four_bytes (a ∷ b ∷ c ∷ []) h = omega arith
-four_bytes (a ∷ b ∷ c ∷ d ∷ []) h = omega arith
-four_bytes (a ∷ b ∷ c ∷ d ∷ e ∷ bs) h = omega arith
 
 pow_256_pos : (w : ℕ) → 0 < 256 ^ w
 pow_256_pos w = one-le-pow w 256 (omega arith)

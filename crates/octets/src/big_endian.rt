@@ -2,6 +2,7 @@ ghost use Rattle.std.specs.Prelude.{◌≡◌, ℕ, List};
 ghost use Rattle.octets.specs.BigEndian.{be_number, be_bytes};
 
 /// A number that a format has in a fixed count of bytes, the highest first.
+// Over std's own methods, to say what they do once for each width and in the words of the formats.
 pub trait BigEndian {
     /// As many bytes as the number has.
     type Bytes;

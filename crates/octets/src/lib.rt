@@ -2,6 +2,9 @@
 
 #![tactic(auto)]
 
+/// Big-endian numbers.
 pub mod big_endian;
+/// Places in an output, and writing at one.
 pub mod output;
+/// The range of flow counts and weights.
 pub mod range;

@@ -13,6 +13,7 @@ pub fn next_place(len: usize, at: usize, size: usize) -> Result<usize, WriteFaul
 }
 
 /// Puts bytes at the front of `out`.
+// A function of its own, since what is lent of an output is its tail, which this knows by its front alone.
 fn put(bytes: &[u8], out: &mut [u8])
     requires { length bytes.now ≤ length out.old }
     ensures { out.new ≡ bytes.now ++ drop (length bytes.now) out.old }

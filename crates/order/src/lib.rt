@@ -10,10 +10,12 @@ ghost use Rattle.order.specs.Least.{LeastAt};
 mod tests;
 
 /// Entries with a total order: of any two, one precedes the other or they tie.
+// A trait of its own and no Ord: entries that tie, as fractions do, need not be equal.
 pub trait TotalOrder {
     /// Whether one entry precedes another.
     ghost before: { Self → Self → Bool };
 
+    /// Whether this entry precedes the other one.
     fn precedes(&self, other: &Self) -> bool
         ensures { result ≡ before self.now other.now };
 
@@ -29,6 +31,12 @@ pub fn least<T: TotalOrder>(entries: &[T]) -> Option<usize>
     entries
         .iter()
         .enumerate()
-        .reduce(|best, next| if next.1.precedes(best.1) { next } else { best })
+        .reduce(|(best_place, best), (place, entry)| {
+            if entry.precedes(best) {
+                (place, entry)
+            } else {
+                (best_place, best)
+            }
+        })
         .map(|(place, _)| place)
 }

@@ -19,6 +19,7 @@ impl TotalOrder for Fraction {
       chain = λ x y z h k. below_chain x.top x.bottom y.top y.bottom z.top z.bottom y.positive h k;
     } };
 
+    // By hand, and no derive: fractions are compared by their cross products, and those that tie need not be equal.
     fn precedes(&self, other: &Fraction) -> bool {
         u16::from(self.top) * u16::from(other.bottom)
             < u16::from(other.top) * u16::from(self.bottom)

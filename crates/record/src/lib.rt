@@ -11,6 +11,7 @@ mod layout;
 mod making;
 mod questions;
 mod read;
+/// Who sends in a slot, and what the marked flow is charged.
 pub mod taking;
 mod write;
 

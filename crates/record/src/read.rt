@@ -8,7 +8,7 @@ use crate::taking::{Charge, Taking};
 use fault::RecordFault;
 use octets::big_endian::BigEndian;
 
-/// The flow that a byte names.
+/// The flow that a byte names; a match says it as plainly as any method of `Option`.
 fn flow_named(byte: u8) -> Option<u8>
     ensures { result ≡ flow_named byte }
 {
@@ -19,6 +19,7 @@ fn flow_named(byte: u8) -> Option<u8>
 }
 
 /// The record that has these bytes.
+// Apart from `read`: the second promise there follows from the first, whichever branch is taken here.
 fn decoded(bytes: &[u8]) -> Result<Record, RecordFault>
     ensures { RecordRead bytes.now result }
 {

@@ -22,6 +22,7 @@ pub enum Taking {
 /// What the marked flow is charged, with its number in a record.
 #[derive(Clone, Copy, PartialEq, Eq, Debug)]
 pub enum Charge {
+    /// No charge. A variant `None` would be taken for that of `Option` in definitions.
     Nothing = 0,
     /// It leads by one less.
     LeadDown = 1,
@@ -51,13 +52,14 @@ impl From<Taking> for (u8, Option<u8>) {
     ghost from_gives = { λ taking pair. pair ≡ (taking_number taking, sender_of taking) };
 
     fn from(taking: Taking) -> (u8, Option<u8>) {
-        match taking {
-            Taking::Idle => (0, None),
-            Taking::Own(flow) => (1, Some(flow)),
-            Taking::LagRepaid(flow) => (2, Some(flow)),
-            Taking::LeadCharged(flow) => (3, Some(flow)),
-            Taking::Free(flow) => (4, Some(flow)),
-        }
+        let number = match taking {
+            Taking::Idle => 0,
+            Taking::Own(_) => 1,
+            Taking::LagRepaid(_) => 2,
+            Taking::LeadCharged(_) => 3,
+            Taking::Free(_) => 4,
+        };
+        (number, taking.sender())
     }
 }
 
@@ -89,6 +91,7 @@ impl From<Charge> for u8 {
 }
 
 /// The charge that a number stands for.
+// The numbers once more: a match on them is plainer than one on the casts of the cases.
 impl TryFrom<u8> for Charge {
     type Error = RecordFault;
 

@@ -1,6 +1,7 @@
 pub mod Fields
 pub mod Fronts
 pub mod Searches
+pub mod FirstFound
 pub mod Shares
 pub mod Steps
 pub mod Totals

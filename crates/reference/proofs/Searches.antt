@@ -53,12 +53,6 @@ module _ {A : Type 0} (p : A → Bool) (d : A) where
   some_none (x ∷ xs) e zero h = (or_parts (p x) (some p xs) e).0
   some_none (x ∷ xs) e (suc k) h = some_none xs (or_parts (p x) (some p xs) e).1 k (omega arith)
 
-  pub none_some : (xs : List A) → ((k : ℕ) → k < length xs → p (get_or xs k d) ≡ false) → some p xs ≡ false
-  none_some [] h = refl
-  none_some (x ∷ xs) h =
-      let a : p x ≡ false = h 0 (omega arith) in
-      rw a (none_some xs (λ k l. h (suc k) (omega arith)))
-
   or_else_cases : (a b : Option ℕ) (f : ℕ) → or_else a b ≡ Some f → (a ≡ Some f) ⊎ (b ≡ Some f)
   or_else_cases None b f e = inr e
   or_else_cases (Some x) b f e = inl e

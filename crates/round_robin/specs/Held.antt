@@ -1,8 +1,9 @@
 -- Proofs, for the laws and the code: the array of a round robin, and what it holds.
-use Rattle.std.specs.Prelude.{◌≡◌, ℕ, ◌+◌, ◌-◌, ◌*◌, ◌%◌, ◌<◌, ◌≤◌, Bool, true, false, List, [], ◌∷◌, ◌++◌, map, length, take, drop, set, Some, None, nat_lt, slice_index_or, slice_set, refl}
-use Rattle.std.proofs.Common.{sym, ap, subst, ◌∙◌, ⊎_elim, arith, le-ltb}
-use Rattle.std.proofs.lemmas.List.{get_or-take, get_or_past, get_or-map, take-map, get_or-set_same, get_or-set_other, take_all, drop_all, append-nil}
-use Rattle.std.proofs.lemmas.Bool.{cases_lt, cases_eq, and_parts, lt-ltb, ltb-true}
+use Rattle.std.specs.Prelude.{◌≡◌, ℕ, ◌+◌, ◌-◌, ◌*◌, ◌%◌, ◌<◌, ◌≤◌, Bool, true, List, [], ◌∷◌, ◌++◌, map, length, take, drop, set, Some, nat_lt, slice_index_or, slice_set, refl}
+use Rattle.std.proofs.Common.{sym, ap, subst, ◌∙◌, ⊎_elim, arith}
+use Rattle.std.proofs.lemmas.List.{get_or-take, get_or-map, take-map, get_or-set_same, get_or-set_other, take_all, drop_all, append-nil}
+use Rattle.std.proofs.lemmas.Bool.{cases_eq, and_parts, lt-ltb, ltb-true}
+use Rattle.std.proofs.lemmas.Bool.Decides.{nat_tests}
 use Rattle.table.specs.Lines.{no_line, weights_sum}
 use Rattle.table.specs.Layout.{flow_lines}
 use Rattle.table.specs.declared.line.Line.{Line}
@@ -23,7 +24,6 @@ use Rattle.round_robin.specs.RoundRobin.{
   quota_at,
   quota_of,
   weight_of,
-  is_due,
   ready,
   fresh,
   switched,
@@ -40,7 +40,6 @@ use Rattle.round_robin.specs.RoundRobin.{
   round_robin,
 }
 use Rattle.round_robin.specs.View.{robin_held}
-use Rattle.round_robin.specs.Laws.{switch_past}
 
 -- What is held, from what the struct keeps.
 
@@ -60,28 +59,14 @@ module _ (r : RoundRobin) where
   pub held_at : (f : ℕ) → f < r.count → quota_at (take r.count r.quotas) f ≡ quota_at r.quotas f
   held_at f h = get_or-take r.count r.quotas f no_quota h
 
-  pub quota_found : (f : ℕ) → f < r.count → quota_of (robin_held r) f ≡ Some (quota_at r.quotas f)
-  quota_found f h = rw (lt-ltb f (length (take r.count r.quotas)) (omega (arith, held_length)), held_at f h)
-
 -- What is told of a flow.
 
 module _ (h : Robin) (f : ℕ) where
   quota_inside : (q : Quota) → Some q ≡ quota_of h f → f < length h.quotas
-  quota_inside q e =
-      ⊎_elim
-      (λ l. l)
-      (λ l.
-      let past : nat_lt f (length h.quotas) ≡ false = le-ltb f (length h.quotas) l in
-      let none : Some q ≡ None = rw past at e in
-      let no : ◌≡◌ {A = ℕ} 0 1 = cc in
-      absurd (omega arith))
-      (cases_lt f (length h.quotas))
+  quota_inside q e = grind (arith, nat_tests)
 
   quota_is : (q : Quota) → Some q ≡ quota_of h f → q ≡ quota_at h.quotas f
-  quota_is q e =
-      let inside : nat_lt f (length h.quotas) ≡ true = lt-ltb f (length h.quotas) (quota_inside q e) in
-      let found : Some q ≡ Some (quota_at h.quotas f) = rw inside at e in
-      cc
+  quota_is q e = grind (arith, nat_tests)
 
   -- a weight is within the total, and what is left of it is the weight of the others
   pub weight_in_total : (q : Quota) → Some q ≡ quota_of h f → q.weight ≤ sum weight_of h.quotas
@@ -98,17 +83,6 @@ module _ (h : Robin) (f : ℕ) where
       omega (arith, sum_split weight_of no_quota h.quotas f (quota_inside q e)) in
       let inside : nat_lt f (length h.quotas) ≡ true = lt-ltb f (length h.quotas) (quota_inside q e) in
       rw inside (ap (λ n. Some (2 * n * (others weight_of h.quotas f))) (sym w) ∙ ap (λ n. Some (2 * q.weight * n)) rest)
-
-  pub none_not_due : None ≡ quota_of h f → (quota_at h.quotas f).due ≡ false
-  none_not_due e =
-      ⊎_elim
-      (λ l.
-      let inside : nat_lt f (length h.quotas) ≡ true = lt-ltb f (length h.quotas) l in
-      let found : None ≡ Some (quota_at h.quotas f) = rw inside at e in
-      let no : ◌≡◌ {A = ℕ} 0 1 = cc in
-      absurd (omega arith))
-      (λ l. ap is_due (get_or_past h.quotas f no_quota l))
-      (cases_lt f (length h.quotas))
 
 -- A flow that enters or leaves, which changes one place of the array.
 
@@ -142,9 +116,6 @@ module _ (b : Bool) (r : RoundRobin) (f : ℕ) where
       ap (pointing_at r.pointer)
       (take_set r.count r.quotas f (switched b (quota_at r.quotas f))
       ∙ ap (λ q. set (take r.count r.quotas) f (switched b q)) (sym (held_at r f h)))
-
-  pub switch_outside : r.count ≤ f → robin_held r ≡ switch b (robin_held r) f
-  switch_outside h = sym (switch_past b (robin_held r) f (omega (arith, held_length r)))
 
 -- The flow that a search finds.
 

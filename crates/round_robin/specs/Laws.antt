@@ -3,12 +3,14 @@ use Rattle.std.specs.Prelude.{◌≡◌, ℕ, ◌+◌, ◌-◌, ◌*◌, ◌<◌
 use Rattle.std.proofs.Common.{sym, ap, subst, ◌∙◌, ⊎_elim, arith, length-set}
 use Rattle.std.specs.List.{AllByRecursion}
 use Rattle.std.proofs.ByRecursion.{All-set}
+use Rattle.std.proofs.Math.Nat.{le_of_eq}
+use Rattle.std.proofs.lemmas.List.Recursion.{or_from_places}
 use Rattle.std.proofs.lemmas.List.{get_or-set_same, get_or-set_other, get_or-map, get_or_past, set_past, set-get_or, length-map}
 use Rattle.std.proofs.lemmas.Bool.{cases_lt, cases_Bool, and_parts, and_cases, not-false, ltb-true, lt-ltb, both_ways}
 use Rattle.reference.specs.Flows.{sum, others, some, around}
 use Rattle.reference.specs.Meaning.{Lawful, SameNumbers, whole}
 use Rattle.reference.proofs.Fields.{part_set}
-use Rattle.reference.proofs.Searches.{around_passes, around_none, some_none, none_some}
+use Rattle.reference.proofs.Searches.{around_passes, around_none, some_none}
 use Rattle.reference.proofs.Totals.{sum_split, sum_below_is, sum_kept, others_kept}
 use Rattle.round_robin.specs.declared.quota.Quota.{Quota}
 use Rattle.round_robin.specs.RoundRobin.{
@@ -275,7 +277,7 @@ module _ (h : Robin) where
   none_due_as_is m e =
       let r : renewed h.quotas ≡ h.quotas = rw e in
       let n : some ready h.quotas ≡ false =
-      none_some ready no_quota h.quotas
+      or_from_places (some ready) ready refl (λ _ _. refl) h.quotas no_quota
       (around_none ready no_quota h.pointer h.quotas (ap (around ready h.pointer) (sym r) ∙ m)) in
       ⊎_elim
       (λ x. some_none is_due no_quota h.quotas x)
@@ -295,10 +297,10 @@ module _ (h : Robin) where
       split None e = e
       split (Some f) e = not_both (quota_at h.quotas f).due (none f) (marked_due h f e)
 
--- AllByRecursion laws.
+-- All laws.
 
 same_le : (a b : ℕ) → a ≡ b → b ≤ a
-same_le a b e = omega arith
+same_le a b e = le_of_eq (sym e)
 
 pub robin_lawful : Lawful round_robin
 robin_lawful =

@@ -8,15 +8,17 @@ ghost use Rattle.round_robin.specs.RoundRobin.{KeptBelow, weight_of};
 
 use crate::quota::Quota;
 
+mod calls;
 mod flows;
-mod made;
+mod of;
 mod quota;
 mod turns;
 
 /// Round robin over the flows of a table.
 #[derive(Clone, Copy)]
 pub struct RoundRobin {
-    // An array of 16 beside its count: the type is Copy, and there is no heap in it. An ArrayVec is not Copy.
+    // An array of 16 beside its count, with a slice and a question over it, as in Table: these types are Copy, which an
+    // ArrayVec is not, and which a struct over [T; 16] with facts cannot derive.
     quotas: [Quota; 16],
     count: u8,
     pointer: u8,

@@ -5,8 +5,11 @@ use table::line::Line;
 /// What a round robin holds of one flow: its weight, how often it was marked in this round, and whether it is due.
 #[derive(Clone, Copy, Default)]
 pub struct Quota {
+    /// The flow's weight, how often it may be marked in a round.
     pub weight: u8,
+    /// How often the flow was marked in this round.
     pub used: u8,
+    /// Whether the flow is due.
     pub due: bool,
 }
 
@@ -19,8 +22,7 @@ impl From<Line> for Quota {
     fn from(line: Line) -> Quota {
         Quota {
             weight: line.weight,
-            used: 0,
-            due: false,
+            ..Quota::default()
         }
     }
 }

@@ -1,5 +1,5 @@
 -- Two tables with the same bytes are the same.
-use Rattle.std.proofs.Common.{◌≡◌, ℕ, ◌-◌, ◌≤◌, true, List, [], ◌∷◌, length, take, drop, replicate, Some, sym, refl, ap, ◌∙◌, arith}
+use Rattle.std.proofs.Common.{◌≡◌, ◌-◌, ◌≤◌, true, List, [], ◌∷◌, length, take, drop, replicate, Some, sym, refl, ap, ◌∙◌, arith}
 use mathlib.Core.HLevel.{is_prop→PathP}
 use mathlib.Core.List.{is_set}
 use mathlib.Core.Bool.{Bool-set}
@@ -31,8 +31,8 @@ line_same l m e =
 
 lines_same : (ls ms : List Line) → flat_map line_bytes ls ≡ flat_map line_bytes ms → ls ≡ ms
 lines_same [] [] e = refl
-lines_same [] (m ∷ ms) e = let no : ◌≡◌ {A = ℕ} 0 1 = cc in absurd (omega arith)
-lines_same (l ∷ ls) [] e = let no : ◌≡◌ {A = ℕ} 0 1 = cc in absurd (omega arith)
+lines_same [] (m ∷ ms) e = absurd (omega (arith, ap length e))
+lines_same (l ∷ ls) [] e = absurd (omega (arith, ap length e))
 lines_same (l ∷ ls) (m ∷ ms) e =
     let f : line_bytes l ≡ line_bytes m = cc in
     let r : flat_map line_bytes ls ≡ flat_map line_bytes ms = cc in

@@ -2,6 +2,7 @@
 use Rattle.std.proofs.Common.{◌≡◌, ℕ, ◌<◌, ◌≤◌, List, length, take, Some, Ok, Err, Result, sym, ap, ◌∙◌, subst, ⊎_elim, arith}
 use Rattle.std.proofs.lemmas.List.{get_or-take, length-take-le, take_all}
 use Rattle.std.proofs.lemmas.Bool.{cases_lt}
+use Rattle.std.proofs.lemmas.Option.{none-some}
 use Rattle.std.proofs.lemmas.Bool.Decides.{nat_tests}
 use Rattle.octets.specs.BigEndian.{Bytes, byte_at}
 use Rattle.fault.specs.Faults.{refused}
@@ -25,12 +26,12 @@ too_long_alike :
     (b c : List ℕ) (x : Result Table LineFault)
     → table_refusal c ≡ Some (refused 1 0 Frame) → table_refusal b ≡ Some (refused 1 0 Frame)
     → TableRead c x → TableRead b x
-too_long_alike b c (Ok t) hc hb h = let u = h.0 in let no : ◌≡◌ {A = ℕ} 0 1 = cc in absurd (omega arith)
+too_long_alike b c (Ok t) hc hb h = absurd (none-some _ (sym h.0 ∙ hc))
 too_long_alike b c (Err e) hc hb h = hb ∙ sym hc ∙ h
 
 pub front_decides :
     (b : List ℕ) (x : Result Table LineFault)
-    → Bytes b → TableRead (take 65538 b) x → TableRead b x
+    → Bytes (take 65538 b) → TableRead (take 65538 b) x → TableRead b x
 front_decides b x small h = ⊎_elim long short (cases_lt 65538 (length b))
   where
     short : length b ≤ 65538 → TableRead b x
@@ -42,5 +43,5 @@ front_decides b x small h = ⊎_elim long short (cases_lt 65538 (length b))
         let n : length c ≡ 65538 = length-take-le 65538 b (omega arith) in
         let e0 : byte_at c 0 ≡ byte_at b 0 = get_or-take 65538 b 0 0 (omega arith) in
         let e1 : byte_at c 1 ≡ byte_at b 1 = get_or-take 65538 b 1 0 (omega arith) in
-        too_long_alike b c x (too_long c (omega (arith, small 0)) (omega (arith, small 1)) (omega arith))
-        (too_long b (small 0) (small 1) (omega arith)) h
+        too_long_alike b c x (too_long c (small 0) (small 1) (omega arith))
+        (too_long b (omega (arith, small 0)) (omega (arith, small 1)) (omega arith)) h

@@ -1,6 +1,6 @@
 -- The numbers of a table lie in their ranges, for whoever builds on one.
 use Rattle.std.proofs.Common.{◌≡◌, ℕ, ◌<◌, ◌≤◌, true, leb, length, get_or, sym, subst, arith}
-use Rattle.std.proofs.lemmas.List.{get_or-take, length-take-le}
+use Rattle.std.proofs.lemmas.List.{get_or-take}
 use Rattle.std.proofs.lemmas.Bool.{and_parts, leb-true}
 use Rattle.octets.specs.Ranges.{one_to_sixteen}
 use Rattle.table.specs.Lines.{delay_weight_fits, line_fits, lookahead_fits, no_line}
@@ -9,6 +9,7 @@ use Rattle.table.specs.declared.line.Kind.{Kind}
 use Rattle.table.specs.declared.line.Kind.TheVariants.{Tags}
 use Rattle.table.specs.declared.Table.{Table}
 use Rattle.table.proofs.Reading.{flow_line_fits}
+pub use Rattle.table.proofs.Writing.{flow_lines_length}
 
 pub in_range : (n : ℕ) → one_to_sixteen n ≡ true → (1 ≤ n) × (n ≤ 16)
 in_range n h =
@@ -16,15 +17,12 @@ in_range n h =
     (leb-true 1 n p.0, leb-true n 16 p.1)
 
 module _ (t : Table) where
-  pub flow_lines_length : length (flow_lines t) ≡ t.flow_count
-  flow_lines_length = length-take-le t.flow_count t.lines (omega (arith, t.few, t.whole))
-
   pub flows_in_range : (1 ≤ length (flow_lines t)) × (length (flow_lines t) ≤ 16)
-  flows_in_range = (omega (arith, flow_lines_length, t.some), omega (arith, flow_lines_length, t.few))
+  flows_in_range = (omega (arith, flow_lines_length t, t.some), omega (arith, flow_lines_length t, t.few))
 
   flow_fits : (f : ℕ) → f < length (flow_lines t) → line_fits (kind_of t) (get_or (flow_lines t) f no_line) ≡ true
   flow_fits f h =
-      let l : f < t.flow_count = omega (arith, flow_lines_length) in
+      let l : f < t.flow_count = omega (arith, flow_lines_length t) in
       subst (λ x. line_fits t.kind x ≡ true) (sym (get_or-take t.flow_count t.lines f no_line l))
       (flow_line_fits t f l)
 

@@ -1,5 +1,5 @@
 pub mod LineBytes
-pub mod PerFlow
+pub mod Places
 pub mod Reading
 pub mod Writing
 pub mod Alike

@@ -1,5 +1,5 @@
 -- The lines of a table, four bytes each.
-use Rattle.std.proofs.Common.{All, ◌≡◌, ℕ, zero, suc, ◌*◌, List, [], ◌∷◌, length, map, take, drop, replicate, refl, arith, length-drop}
+use Rattle.std.proofs.Common.{All, ◌≡◌, ℕ, zero, suc, ◌*◌, List, [], ◌∷◌, length, map, take, drop, replicate, refl, ap, arith, length-drop}
 use Rattle.std.specs.List.{flat_map, AllZip}
 use Rattle.std.specs.Simd.{first_chunks}
 use Rattle.std.proofs.lemmas.List.{take-append-drop}
@@ -17,8 +17,8 @@ pub lines_from_rows :
     → flat_map line_bytes ls ≡ bs
 lines_from_rows [] zero [] e n = refl
 lines_from_rows [] zero (b ∷ bs) e n = absurd (omega arith)
-lines_from_rows [] (suc k) bs e n = let no : ◌≡◌ {A = ℕ} 0 1 = cc in absurd (omega arith)
-lines_from_rows (l ∷ ls) zero bs e n = let no : ◌≡◌ {A = ℕ} 0 1 = cc in absurd (omega arith)
+lines_from_rows [] (suc k) bs e n = absurd (omega (arith, ap length e))
+lines_from_rows (l ∷ ls) zero bs e n = absurd (omega (arith, ap length e))
 lines_from_rows (l ∷ ls) (suc k) bs e n =
     let first : line_bytes l ≡ take 4 bs = cc in
     let others : map line_bytes ls ≡ first_chunks 4 k (drop 4 bs) = cc in

@@ -1,7 +1,8 @@
 -- A table that was written is read back.
-use Rattle.std.proofs.Common.{◌≡◌, ℕ, ◌+◌, ◌*◌, List, ◌∷◌, length, Some, None, Ok, Err, Result, ap, ◌∙◌, arith}
+use Rattle.std.proofs.Common.{◌≡◌, ℕ, ◌+◌, ◌*◌, List, ◌∷◌, length, Some, None, Ok, Err, Result, sym, ap, ◌∙◌, arith}
 use Rattle.std.specs.Option.{option_map}
 use Rattle.std.specs.List.{flat_map}
+use Rattle.std.proofs.lemmas.Option.{none-some}
 use Rattle.std.proofs.lemmas.Bool.Decides.{nat_tests}
 use Rattle.octets.specs.BigEndian.{told_length}
 use Rattle.fault.specs.Faults.{refused}
@@ -58,7 +59,4 @@ module _ (t : Table) where
 
   pub table_read_back : (r : Result Table LineFault) → TableRead (table_bytes t) r → r ≡ Ok t
   table_read_back (Ok s) h = ap Ok (tables_alike s t h.1)
-  table_read_back (Err e) h =
-      let u = table_unrefused in
-      let no : ◌≡◌ {A = ℕ} 0 1 = cc in
-      absurd (omega arith)
+  table_read_back (Err e) h = absurd (none-some _ (sym table_unrefused ∙ h))

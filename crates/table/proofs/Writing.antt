@@ -8,11 +8,12 @@ use Rattle.table.specs.Layout.{flow_lines, table_bytes}
 use Rattle.table.specs.declared.Table.{Table}
 use Rattle.table.proofs.LineBytes.{length_lines}
 
-pub length_flow_lines : (t : Table) → length (flow_lines t) ≡ t.flow_count
-length_flow_lines t = length-take-le t.flow_count t.lines (omega (arith, t.few, t.whole))
+-- a table has as many lines as flows
+pub flow_lines_length : (t : Table) → length (flow_lines t) ≡ t.flow_count
+flow_lines_length t = length-take-le t.flow_count t.lines (omega (arith, t.few, t.whole))
 
 pub length_line_bytes : (t : Table) → length (flat_map line_bytes (flow_lines t)) ≡ 4 * t.flow_count
-length_line_bytes t = length_lines (flow_lines t) ∙ ap (λ n. 4 * n) (length_flow_lines t)
+length_line_bytes t = length_lines (flow_lines t) ∙ ap (λ n. 4 * n) (flow_lines_length t)
 
 pub length_table_bytes : (t : Table) → length (table_bytes t) ≡ 6 + 4 * t.flow_count
 length_table_bytes t = omega (arith, length_line_bytes t)

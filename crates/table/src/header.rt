@@ -2,6 +2,7 @@ ghost use Rattle.std.specs.Prelude.{◌≡◌};
 ghost use Rattle.table.specs.Lines.{lookahead_fits};
 ghost use Rattle.table.specs.Layers.{FrameChecked, HeaderRead};
 
+use crate::layout::{HEADER_BYTES, LENGTH_BYTES, LINE_BYTES, VERSION};
 use crate::line::Kind;
 use fault::{FrameFault, HeaderFault};
 use octets::big_endian::BigEndian;
@@ -32,10 +33,10 @@ fn check_frame(bytes: &[u8]) -> Result<(), FrameFault>
     let [high, low, version, _, _, _, ..] = *bytes else {
         return Err(FrameFault::Length);
     };
-    if bytes.len() != 2 + usize::from(u16::from_bytes([high, low])) {
+    if bytes.len() != LENGTH_BYTES + usize::from(u16::from_bytes([high, low])) {
         return Err(FrameFault::Length);
     }
-    if version != 1 {
+    if version != VERSION {
         return Err(FrameFault::Version);
     }
     Ok(())
@@ -53,7 +54,9 @@ impl Header {
             return Err(HeaderFault::Lookahead);
         }
         let flow_count = bytes[5];
-        if !one_to_sixteen(flow_count) || bytes.len() != 6 + 4 * usize::from(flow_count) {
+        if !one_to_sixteen(flow_count)
+            || bytes.len() != HEADER_BYTES + LINE_BYTES * usize::from(flow_count)
+        {
             return Err(HeaderFault::FlowCount);
         }
         Ok(Header {

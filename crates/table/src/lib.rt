@@ -8,6 +8,7 @@ ghost use Rattle.table.specs.Lines.{lookahead_fits, lines_fit, no_line};
 use crate::line::{Kind, Line};
 
 mod header;
+mod layout;
 pub mod line;
 mod questions;
 mod read;
@@ -15,12 +16,13 @@ mod sixteen;
 mod write;
 
 /// A table that keeps every rule of its format: what a cell is set up from.
-#[derive(Clone, Copy)]
+#[derive(Clone, Copy, PartialEq, Eq, Debug)]
 pub struct Table {
     kind: Kind,
     lookahead: u8,
     flow_count: u8,
-    // An array of 16 beside its count: a table is Copy, and there is no heap in it. An ArrayVec is not Copy.
+    // An array of 16 beside its count, with a slice and a question over it, as in both references: these types are Copy,
+    // which an ArrayVec is not, and which a struct over [T; 16] with facts cannot derive.
     lines: [Line; 16],
     ghost some: { 1 ≤ flow_count },
     ghost few: { flow_count ≤ 16 },

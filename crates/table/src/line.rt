@@ -1,3 +1,5 @@
+//! What a table says of one flow, and the kinds of reference that a table asks for.
+
 ghost use Rattle.std.specs.Prelude.{◌≡◌, ok_or};
 ghost use Rattle.table.specs.Lines.{kind_number, kind_numbered, delay_weight_fits, line_bytes};
 ghost use Rattle.table.specs.Layers.{LineChecked};
@@ -10,7 +12,9 @@ use std::fmt;
 /// The reference that a table asks for, with its number in a table.
 #[derive(Clone, Copy, PartialEq, Eq, Debug)]
 pub enum Kind {
+    /// One flow after another, each as often in a round as its weight says.
     RoundRobin = 1,
+    /// Of the due flows that are not too far ahead of their share, the one that would finish first.
     Tags = 2,
 }
 
@@ -24,6 +28,7 @@ impl From<Kind> for u8 {
 }
 
 /// The kind that a number stands for.
+// The numbers once more: a match on them is plainer than one on the casts of the cases.
 impl TryFrom<u8> for Kind {
     type Error = HeaderFault;
 
@@ -38,6 +43,7 @@ impl TryFrom<u8> for Kind {
     }
 }
 
+/// The name of a kind, as it is shown.
 impl fmt::Display for Kind {
     fn fmt<W: fmt::Write>(&self, f: &mut fmt::Formatter<W>) -> fmt::Result {
         f.write_str(match self {
@@ -50,13 +56,17 @@ impl fmt::Display for Kind {
 /// What a table says of one flow.
 #[derive(Clone, Copy, PartialEq, Eq, Debug, Default)]
 pub struct Line {
+    /// 1 to 16 in a table. The flow's share is this over the sum of all weights.
     pub weight: u8,
-    /// 0 in a table for round robin, which has none.
+    /// 1 to 16 in a table for tags; 0 in a table for round robin, which has none.
     pub delay_weight: u8,
+    /// How many turns the flow may lag behind; any number.
     pub lag_limit: u8,
+    /// How many turns the flow may lead; any number.
     pub lead_limit: u8,
 }
 
+/// The line that four bytes stand for; any four bytes do.
 impl From<[u8; 4]> for Line {
     ghost from_gives = { λ bytes line. line_bytes line ≡ bytes };
 
@@ -71,6 +81,7 @@ impl From<[u8; 4]> for Line {
     }
 }
 
+/// The four bytes of a line in a table, in the order of its fields.
 impl From<Line> for [u8; 4] {
     ghost from_gives = { λ line bytes. bytes ≡ line_bytes line };
 

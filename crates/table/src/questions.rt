@@ -47,7 +47,7 @@ impl Table {
     }
 
     /// A value for each flow, made of its line, and the default past the last flow.
-    pub fn per_flow<T: From<Line> + Default + Copy>(&self) -> [T; 16]
+    pub fn per_flow<T: From<Line> + Default>(&self) -> [T; 16]
         ensures made { AllZip T.from_gives (flow_lines self.now) (take self.now.flow_count result) }
         ensures spare { All T.is_default (drop self.now.flow_count result) }
     {

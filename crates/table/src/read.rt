@@ -8,6 +8,7 @@ ghost use Rattle.table.specs.Refusals.{TableRead};
 
 use crate::Table;
 use crate::header::Header;
+use crate::layout::HEADER_BYTES;
 use crate::line::{Kind, Line};
 use crate::sixteen::sixteen_of;
 use fault::LineFault;
@@ -32,7 +33,7 @@ fn checked(bytes: &[u8]) -> Result<Table, LineFault>
         lookahead,
         flow_count,
     } = Header::read(bytes)?;
-    let (rows, _) = bytes[6..].as_chunks();
+    let (rows, _) = bytes[HEADER_BYTES..].as_chunks();
     let lines = sixteen_of(rows);
     check_lines(kind, &lines[..usize::from(flow_count)])?;
     Ok(Table {
@@ -55,7 +56,7 @@ impl Table {
     /// How many bytes of an input decide what is read of it. A longer input is longer than any length can tell.
     pub fn deciding_bytes() -> u64
         ensures number { result ≡ 65538 }
-        ensures decide { (b : List ℕ) (x : Result Table LineFault) → Bytes b → TableRead (take result b) x → TableRead b x }
+        ensures decide { (b : List ℕ) (x : Result Table LineFault) → Bytes (take result b) → TableRead (take result b) x → TableRead b x }
     {
         65_538
     }

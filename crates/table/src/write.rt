@@ -3,21 +3,23 @@ ghost use Rattle.octets.specs.Output.{Written};
 ghost use Rattle.table.specs.Layout.{table_bytes};
 
 use crate::Table;
+use crate::layout::{MOST_BYTES, VERSION};
 use arrayvec::ArrayVec;
 use fault::WriteFault;
 use octets::big_endian::BigEndian;
 use octets::output;
 
 impl Table {
-    /// The bytes of the table, at most 6 and 4 for each of sixteen flows.
-    fn bytes(&self) -> ArrayVec<u8, 70>
+    /// The bytes of the table.
+    fn bytes(&self) -> ArrayVec<u8, MOST_BYTES>
         ensures { result.items ≡ table_bytes self.now }
     {
+        // The length counts the four bytes behind it, and four for each line.
         let [high, low] = (4 + 4 * u16::from(self.flow_count)).to_bytes();
         let header = [
             high,
             low,
-            1,
+            VERSION,
             u8::from(self.kind),
             self.lookahead,
             self.flow_count,

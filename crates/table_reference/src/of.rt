@@ -8,6 +8,7 @@ use tags::Tags;
 
 impl TableReference {
     /// The reference of a table's kind, at its start: every table has one.
+    // A named constructor and no From<&Table>: it promises two things by name.
     pub fn of(table: &Table) -> TableReference
         ensures made { Made table.now result }
         ensures worked { WorkedMarks }

@@ -3,6 +3,7 @@ use Rattle.std.proofs.Common.{◌≡◌, ℕ, ◌+◌, ◌-◌, ◌*◌, ◌/◌
 use lib.ListN.{length-map}
 use Rattle.std.specs.List.{AllByRecursion}
 use Rattle.std.proofs.ByRecursion.{All-get_or, All-set, All-map, All-weaker}
+use Rattle.std.proofs.Math.Nat.{le_of_eq}
 use Rattle.std.proofs.lemmas.List.{get_or-set_same, get_or-set_other, get_or-map, get_or_past, set_past, set-get_or}
 use Rattle.std.proofs.lemmas.Bool.{cases_lt, and_parts, leb-true}
 use Rattle.tag_rule.specs.declared.stamp.Stamp.{Stamp}
@@ -379,9 +380,6 @@ none_due h s e f =
     (λ l. ap is_due (get_or_past h.stamps f no_stamp l))
     (cases_lt f (length h.stamps))
 
-same_le : (a b : ℕ) → a ≡ b → b ≤ a
-same_le a b e = omega arith
-
 -- a flow that enters keeps its tag, which is at least virtual time
 abbrev retagged : Stamp → ℕ → Stamp
 retagged s t = record { weight = s.weight; delay_weight = s.delay_weight; tag = t; due = true }
@@ -401,7 +399,7 @@ tags_lawful =
       turn_sound = after_sound;
       one_to_sixteen_flows = λ h s. (s.some_flows, s.few_flows);
       weight_at_least_one = λ h f s l. (stamp_kept h.lookahead h.stamps f s.kept l).0;
-      total_covers_weights = λ h s. same_le _ _ (sym (sum_below_is weight_of no_stamp h.stamps));
+      total_covers_weights = λ h s. le_of_eq (sum_below_is weight_of no_stamp h.stamps);
       enter_keeps_numbers = λ h f _. subst (SameNumbers tags h) (sym (switched_is true h f)) (switch_numbers true h f);
       leave_keeps_numbers = λ h f _. switch_numbers false h f;
       turn_keeps_numbers = turn_numbers;

@@ -1,7 +1,9 @@
-//! The rule of tags and what it means, apart from the code that follows it: definitions, and the proofs of the laws.
+//! The rule of tags and what it means: definitions, the proofs of the laws, and the values that the code holds, which are a
+//! flow's stamp and its entry.
 
 #![tactic(auto)]
 
+/// A flow that may be marked, with its finish tag, and the order in which such flows are marked.
 pub mod entry;
-pub mod entry_order;
+/// What tags hold of one flow.
 pub mod stamp;

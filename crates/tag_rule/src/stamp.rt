@@ -6,10 +6,13 @@ use table::line::Line;
 /// What tags hold of one flow: plain numbers, with no invariant of their own.
 #[derive(Clone, Copy, Default)]
 pub struct Stamp {
+    /// The flow's weight: the larger, the less a turn adds to its start tag.
     pub weight: u8,
+    /// The flow's delay weight: the larger, the sooner its finish tag follows its start tag.
     pub delay_weight: u8,
     /// The start tag, counted from virtual time on.
     pub tag: u32,
+    /// Whether the flow is due.
     pub due: bool,
 }
 

@@ -4,7 +4,7 @@ ghost use Rattle.tag_rule.specs.Tags.{Kept, settled, stamp_of, with_lookahead};
 ghost use Rattle.tags.specs.View.{tags_held};
 
 use crate::Tags;
-use crate::time::{advance_by, seen_from};
+use crate::time::{advance, seen_from};
 use tag_rule::stamp::Stamp;
 
 impl Tags {
@@ -32,7 +32,7 @@ impl Tags {
     {
         self.stamps[usize::from(flow)] = stamp;
         // The slice is taken of the array: `flows` would lend the whole value, which is not settled before the last line.
-        let time = advance_by(&self.stamps[..usize::from(self.count)]);
+        let time = advance(&self.stamps[..usize::from(self.count)]);
         self.stamps = seen_from(self.stamps, time);
     }
 }

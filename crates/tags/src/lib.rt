@@ -18,6 +18,8 @@ mod time;
 /// Tags over the flows of a table. It holds start tags less virtual time, and so stays small for ever.
 #[derive(Clone, Copy)]
 pub struct Tags {
+    // An array of 16 beside its count, with a slice and a question over it, as in Table: these types are Copy, which an
+    // ArrayVec is not, and which a struct over [T; 16] with facts cannot derive.
     stamps: [Stamp; 16],
     count: u8,
     lookahead: u8,

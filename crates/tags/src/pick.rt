@@ -15,7 +15,7 @@ const WHOLE: u32 = 720_720;
 
 impl Tags {
     /// A flow's entry, if the flow is eligible: it is due, and its start tag not past the lookahead.
-    fn entry(&self, flow: u8) -> Option<Entry>
+    fn eligible_entry(&self, flow: u8) -> Option<Entry>
         ensures { result ≡ entry_of (tags_held self.now) flow }
     {
         let stamp = self.stamp(flow)?;
@@ -27,13 +27,13 @@ impl Tags {
     }
 
     /// The entries of the eligible flows, in the order of the flows.
-    fn eligible(&self) -> ArrayVec<Entry, 16>
+    fn eligible_entries(&self) -> ArrayVec<Entry, 16>
         ensures { result.items ≡ entries 0 self.now.lookahead 0 (tags_held self.now).stamps }
     {
-        // A loop: `extend` with a chain would answer with an error for want of room, and there is room for every flow.
+        // A loop, no plainer as a chain: `extend` would answer with an error for want of room, which there always is.
         let mut found = ArrayVec::new();
         for flow in 0..self.count {
-            if let Some(entry) = self.entry(flow) {
+            if let Some(entry) = self.eligible_entry(flow) {
                 found.push(entry);
             }
         }
@@ -44,7 +44,8 @@ impl Tags {
     pub(crate) fn pick(&self) -> Option<u8>
         ensures { result ≡ marked (clock (tags_held self.now)) }
     {
-        let found = self.eligible();
+        let found = self.eligible_entries();
+        // The search and not `min`: it is the one for every kind of entry, also for those whose ties are not equal.
         least(&found).map(|first| found[first].flow)
     }
 

@@ -4,7 +4,7 @@ ghost use Rattle.tag_rule.specs.Tags.{advance, later};
 use tag_rule::stamp::Stamp;
 
 /// How far virtual time moves on: to the smallest start tag of the due flows, if there are any.
-pub(crate) fn advance_by(stamps: &[Stamp]) -> u32
+pub(crate) fn advance(stamps: &[Stamp]) -> u32
     ensures { result ≡ advance stamps.now }
 {
     stamps

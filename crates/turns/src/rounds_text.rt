@@ -1,3 +1,6 @@
+ghost use Rattle.std.specs.Prelude.{◌<◌};
+ghost use Rattle.table_reference.specs.View.{own, own_held};
+
 use reference::Reference;
 use rounds::{count_marks, fewest_marks};
 use std::fmt;
@@ -16,6 +19,7 @@ pub struct RoundsText<'a> {
 /// The marks of some turns, in their order.
 fn write_marks<W: fmt::Write>(f: &mut fmt::Formatter<W>, marks: &[Option<u8>]) -> fmt::Result {
     for mark in marks {
+        // A match and no method of an Option: the two arms print in different ways.
         match *mark {
             Some(flow) => write!(f, " {flow:>2}")?,
             None => f.write_str("  -")?,
@@ -24,16 +28,20 @@ fn write_marks<W: fmt::Write>(f: &mut fmt::Formatter<W>, marks: &[Option<u8>]) -
     f.write_str("\n")
 }
 
-impl<'a> RoundsText<'a> {
+impl RoundsText<'_> {
     /// One flow in a line: its marks against its share of two rounds, which is twice its weight, and the fewest marks that
     /// its allowance leaves it.
-    fn write_flow<W: fmt::Write>(&self, f: &mut fmt::Formatter<W>, flow: u8) -> fmt::Result {
-        let weight = self.reference.weight(flow).unwrap_or(0);
-        let allowance = self.reference.allowance(flow).unwrap_or(0);
+    fn write_flow<W: fmt::Write>(&self, f: &mut fmt::Formatter<W>, flow: u8) -> fmt::Result
+        requires { flow < own.flows (own_held self.now.reference.now) }
+    {
+        let weight = self.reference.weight(flow).unwrap();
+        let allowance = self.reference.allowance(flow).unwrap();
         let share = 2 * u64::from(weight);
         let marked = count_marks(self.marks, flow);
+        // A slice may be of any length; it never comes to that many: two rounds of a table are at most 512 turns.
         let turns = u32::try_from(self.marks.len()).unwrap_or(u32::MAX);
         let total = self.reference.total_weight();
+        // 0 where there is nothing to tell; it never comes to that: by the laws a total weight is at least 1.
         let fewest = fewest_marks(turns, weight, total, allowance).unwrap_or(0);
         writeln!(
             f,
@@ -42,7 +50,7 @@ impl<'a> RoundsText<'a> {
     }
 }
 
-impl<'a> fmt::Display for RoundsText<'a> {
+impl fmt::Display for RoundsText<'_> {
     fn fmt<W: fmt::Write>(&self, f: &mut fmt::Formatter<W>) -> fmt::Result {
         let setup = SetupText(self.table);
         let turns = self.marks.len();

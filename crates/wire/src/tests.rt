@@ -1,4 +1,4 @@
-use crate::{Kind, Layer, Record, Refusal, Table};
+use crate::{Kind, Layer, Record, RecordFault, Refusal, Table, WriteFault};
 use std::process::Abort;
 use std::test::Fail;
 
@@ -150,5 +150,32 @@ fn writing_without_room(rt: HostRuntime) -> Result<(), Fail> {
     };
     assert_eq!(rt; fault.number(), 12);
     assert_eq!(rt; out, [9; 12]);
+    Ok(())
+}
+
+/// The faults of a record, in words.
+const RECORD_FAULTS: [(RecordFault, &str); 3] = [
+    (
+        RecordFault::Length,
+        "there are not twelve bytes, or the length is not 10",
+    ),
+    (RecordFault::Version, "the version is not 1"),
+    (
+        RecordFault::Field,
+        "a field is out of its range, or fields do not go together",
+    ),
+];
+
+#[test]
+fn faults_of_records_and_of_writing_in_words(rt: HostRuntime) -> Result<(), Fail> {
+    for (fault, words) in RECORD_FAULTS.iter() {
+        let text = fault.to_string(rt.alloc())?;
+        assert_eq!(rt; text.as_str(), *words);
+    }
+    let text = WriteFault::NoRoom.to_string(rt.alloc())?;
+    assert_eq!(rt;
+        text.as_str(),
+        "there are too few bytes from the place on, or it lies past the end"
+    );
     Ok(())
 }

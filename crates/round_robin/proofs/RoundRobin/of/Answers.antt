@@ -1,7 +1,6 @@
 use Rattle.std.proofs.Common.{take, sym, ap, ◌∙◌, arith}
 use Rattle.std.proofs.lemmas.Slice.Zip.{AllZip-map}
 use Rattle.reference.specs.Flows.{sum}
-use Rattle.table.specs.Layout.{flow_lines}
 use Rattle.round_robin.specs.RoundRobin.{pointing_at, weight_of, fresh}
 use Rattle.round_robin.proofs.InTurn.{marks_in_turn}
 use Rattle.round_robin.specs.Held.{start_kept, start_summed}
@@ -12,7 +11,7 @@ invariant_of-result c =
     let t = c.args.table.now in
     let qs = c.per_flow.result in
     let count = c.flow_count.ensures in
-    let made = AllZip-map fresh (flow_lines t) (take t.flow_count qs) c.per_flow.ensures.made in
+    let made = AllZip-map fresh _ _ c.per_flow.ensures.made in
     record {
       sized = omega arith;
       some = rw count t.some;
@@ -26,7 +25,5 @@ invariant_of-result c =
 
 pub returns : goal.returns
 returns c =
-    let t = c.args.table.now in
-    let count = c.flow_count.ensures in
-    let made = AllZip-map fresh (flow_lines t) (take t.flow_count c.per_flow.result) c.per_flow.ensures.made in
-    record { starts = rw count (ap (pointing_at 0) made); in_turn = marks_in_turn }
+    let made = AllZip-map fresh _ _ c.per_flow.ensures.made in
+    record { starts = rw c.flow_count.ensures (ap (pointing_at 0) made); in_turn = marks_in_turn }

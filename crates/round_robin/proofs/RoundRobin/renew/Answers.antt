@@ -1,13 +1,10 @@
-use Rattle.std.proofs.Common.{◌≡◌, take, get_or, sym, ap, ◌∙◌, arith, rules, tests}
-use Rattle.std.proofs.lemmas.Iterator.{YieldsList-from_slice}
-use Rattle.std.proofs.lemmas.Iterator.Search.{any_from_yields_List}
+use Rattle.std.proofs.Common.{take, get_or, sym, ap, ◌∙◌, arith, rules, tests}
 use Rattle.std.proofs.lemmas.List.Edits.{map_over_more}
 use Rattle.std.proofs.lemmas.List.{get_or_default}
-use Rattle.reference.specs.Flows.{some}
 use Rattle.round_robin.specs.RoundRobin.{no_quota, pointing_at, unused, is_due, ready}
 use Rattle.round_robin.specs.Rounds.{renewed_anew, renewed_none_due, renewed_some_ready}
 use Rattle.round_robin.specs.Held.{reset_all, reset_kept, reset_front, reset_summed}
-use Rattle.round_robin.proofs.Searches.{list_any_some}
+use Rattle.reference.proofs.FirstFound.{any_some}
 use Rattle.round_robin.proofs.RoundRobin.renew.Goals as goal
 use Rattle.round_robin.proofs.RoundRobin.renew.Goals.{else-any-via-then-any+else-not-any, else-any-via-else-any}
 
@@ -37,12 +34,8 @@ pub returns-after-loop-quota : goal.returns-after-loop-quota
 returns-after-loop-quota c =
     let r = c.args.self.now in
     let qs = take r.count r.quotas in
-    let due : c.any.result ≡ some is_due qs =
-    any_from_yields_List is_due _ _ _ c.any.ensures.ran (YieldsList-from_slice qs cc) (λ x b q k. search (rules, tests))
-    ∙ list_any_some is_due qs in
-    let waiting : c.any-then-any.result ≡ some ready qs =
-    any_from_yields_List ready _ _ _ c.any-then-any.ensures.ran (YieldsList-from_slice qs cc) (λ x b q k. search (rules, tests))
-    ∙ list_any_some ready qs in
+    let due = any_some is_due qs _ _ c.any.ensures.ran (cc) (λ x b q k. search (rules, tests)) in
+    let waiting = any_some ready qs _ _ c.any-then-any.ensures.ran (cc) (λ x b q k. search (rules, tests)) in
     let anew = renewed_anew qs (sym due ∙ c.if-any.true) (sym waiting ∙ c.if-not-any.true) in
     let done = reset_all r _ _ c.loop-quota-test.false c.loop-quota.invariant.1 in
     rw done (ap (pointing_at r.pointer) (reset_front r ∙ sym anew))
@@ -51,15 +44,11 @@ pub returns-else-any : goal.returns-else-any
 returns-else-any c =
     let r = c.args.self.now in
     let qs = take r.count r.quotas in
-    let due : c.any.result ≡ some is_due qs =
-    any_from_yields_List is_due _ _ _ c.any.ensures.ran (YieldsList-from_slice qs cc) (λ x b q k. search (rules, tests))
-    ∙ list_any_some is_due qs in
     elim c.else-any.branch [
       | else-any-via-then-any+else-not-any w ↦
-          let waiting : w.any-then-any.result ≡ some ready qs =
-          any_from_yields_List ready _ _ _ w.any-then-any.ensures.ran (YieldsList-from_slice qs cc) (λ x b q k. search (rules, tests))
-          ∙ list_any_some ready qs in
+          let waiting = any_some ready qs _ _ w.any-then-any.ensures.ran (cc) (λ x b q k. search (rules, tests)) in
           ap (pointing_at r.pointer) (sym (renewed_some_ready qs (sym waiting ∙ w.if-not-any.false)))
       | else-any-via-else-any w ↦
+          let due = any_some is_due qs _ _ c.any.ensures.ran (cc) (λ x b q k. search (rules, tests)) in
           ap (pointing_at r.pointer) (sym (renewed_none_due qs (sym due ∙ w.if-any.false)))
     ]

@@ -14,10 +14,12 @@ overflow_add-tag c = omega (arith, pick_tag c.args.self.now _ _ c.from.ensures c
 
 pub put-requires : goal.put-requires
 put-requires c =
-    let k = pick_kept c.args.self.now _ _ c.from.ensures c.requires in
-    let tag = pick_tag c.args.self.now _ _ c.from.ensures c.requires in
+    let t = c.args.self.now in
+    let from = c.from.ensures in
+    let k = pick_kept t _ _ from c.requires in
+    let tag = pick_tag t _ _ from c.requires in
     record {
-      inside = pick_below c.args.self.now _ _ c.from.ensures c.requires;
-      same_weight = ap weight_of (pick_at c.args.self.now _ _ c.from.ensures c.requires);
+      inside = pick_below t _ _ from c.requires;
+      same_weight = ap weight_of (pick_at t _ _ from c.requires);
       kept = (k.0, k.1, k.2, k.3, rw c.from-2.ensures (omega (arith, tag)));
     }

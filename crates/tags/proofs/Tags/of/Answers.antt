@@ -1,4 +1,4 @@
-use Rattle.std.proofs.Common.{take, sym, ◌∙◌, subst, arith}
+use Rattle.std.proofs.Common.{sym, ◌∙◌, subst, arith}
 use Rattle.std.proofs.lemmas.Slice.Zip.{AllZip-map}
 use Rattle.table.specs.Layout.{lookahead_of, flow_lines}
 use Rattle.table.proofs.InRange.{flow_lines_length, flows_in_range, lookahead_in_range}
@@ -14,10 +14,10 @@ invariant_of-result c =
     let t = c.args.table.now in
     let n = c.flow_count.ensures in
     let p = c.lookahead.ensures in
-    let made = AllZip-map fresh (flow_lines t) (take t.flow_count c.per_flow.result) c.per_flow.ensures.made in
+    let made = AllZip-map fresh _ _ c.per_flow.ensures.made in
     let kind = sym c.in-Tags.ensures in
-    let range = flows_in_range c.args.table.now in
-    let long = flow_lines_length c.args.table.now in
+    let range = flows_in_range t in
+    let long = flow_lines_length t in
     record {
       sized = omega arith;
       some = omega (arith, n, long, range.0);
@@ -31,7 +31,7 @@ invariant_of-result c =
 pub returns-in-Tags : goal.returns-in-Tags
 returns-in-Tags c =
     let t = c.args.table.now in
-    let made = AllZip-map fresh (flow_lines t) (take t.flow_count c.per_flow.result) c.per_flow.ensures.made in
+    let made = AllZip-map fresh _ _ c.per_flow.ensures.made in
     let holds = fresh_held t _ _ _ c.flow_count.ensures c.lookahead.ensures made in (
       sym c.in-Tags.ensures,
       holds,

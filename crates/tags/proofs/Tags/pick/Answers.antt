@@ -11,4 +11,4 @@ returns c =
     let flow : c.map.result ≡ option_map (λ i. (get_or c.deref.result.now i none).flow) c.least.result = search rules in
     flow
     ∙ (least_is c.deref.result.now c.least.result none c.least.ensures
-    ∙ ap soonest (c.deref.ensures.0 ∙ c.eligible-found.ensures))
+    ∙ ap soonest (c.deref.ensures.0 ∙ c.eligible_entries-found.ensures))

@@ -6,7 +6,7 @@ invariant_of-self c =
     let t = c.args.self.now in
     let r
     = put_stored c.args.self.now c.args.flow c.args.stamp _ _ _ _ c.requires.same_weight c.requires.kept c.from-2.ensures c.from.ensures
-    c.advance_by-time.ensures c.seen_from-self.ensures in
+    c.advance-time.ensures c.seen_from-self.ensures in
     record {
       sized = r.sized;
       some = t.some;
@@ -20,4 +20,4 @@ invariant_of-self c =
 pub returns : goal.returns
 returns c =
     put_holds c.args.self.now c.args.flow c.args.stamp _ _ _ _ c.requires.same_weight c.requires.kept c.from-2.ensures c.from.ensures
-    c.advance_by-time.ensures c.seen_from-self.ensures
+    c.advance-time.ensures c.seen_from-self.ensures

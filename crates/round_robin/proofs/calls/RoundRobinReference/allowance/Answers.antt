@@ -1,7 +1,7 @@
 use Rattle.std.proofs.Common.{arith, rules}
 use Rattle.round_robin.specs.View.{robin_held}
 use Rattle.round_robin.specs.Held.{weight_in_total, allowance_told}
-use Rattle.round_robin.proofs.made.RoundRobinReference.allowance.Goals as goal
+use Rattle.round_robin.proofs.calls.RoundRobinReference.allowance.Goals as goal
 
 pub overflow_sub-rest : goal.overflow_sub-rest
 overflow_sub-rest c =

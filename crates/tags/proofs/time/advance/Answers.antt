@@ -4,7 +4,7 @@ use Rattle.std.proofs.lemmas.Iterator.Consumers.{YieldsList-from_filter, YieldsL
 use Rattle.std.proofs.lemmas.Iterator.Adapters.{option_map_id}
 use Rattle.tag_rule.specs.Tags.{is_due}
 use Rattle.tags.proofs.Steps.{tag_of, lowest_is, time_is}
-use Rattle.tags.proofs.time.advance_by.Goals as goal
+use Rattle.tags.proofs.time.advance.Goals as goal
 
 pub returns : goal.returns
 returns c =

@@ -1,10 +1,22 @@
-ghost use Rattle.round_robin.specs.RoundRobin.{round_robin};
+ghost use Rattle.std.specs.Prelude.{◌≡◌};
+ghost use Rattle.round_robin.specs.RoundRobin.{round_robin, switch};
 ghost use Rattle.round_robin.specs.View.{robin_held};
 ghost use Rattle.round_robin.specs.Laws.{robin_lawful};
 ghost use Rattle.round_robin.specs.Held.{held_sound};
 
 use crate::RoundRobin;
 use reference::Reference;
+
+impl RoundRobin {
+    /// Makes a flow due or not due. What it has used stays; a number past the last flow alters nothing.
+    fn switch(&mut self, flow: u8, due: bool)
+        ensures { robin_held self.new ≡ switch due (robin_held self.old) flow }
+    {
+        if flow < self.count {
+            self.quotas[usize::from(flow)].due = due;
+        }
+    }
+}
 
 impl Reference for RoundRobin {
     ghost meaning = { round_robin };
@@ -15,12 +27,14 @@ impl Reference for RoundRobin {
 
     ghost sound = { held_sound };
 
+    // The questions read a field each, as those of Tags do: the trait is what both share, and one struct below both could not
+    // derive Copy (lib.rt).
     fn flow_count(&self) -> u8 {
         self.count
     }
 
     fn weight(&self, flow: u8) -> Option<u32> {
-        Some(u32::from(self.quota(flow)?.weight))
+        self.quota(flow).map(|quota| u32::from(quota.weight))
     }
 
     fn allowance(&self, flow: u8) -> Option<u32> {

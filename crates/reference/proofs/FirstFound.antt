@@ -1,15 +1,33 @@
 -- What the searches of the library find, in the words of a reference.
-use Rattle.std.proofs.Common.{◌≡◌, ℕ, suc, ◌+◌, ◌-◌, ◌<◌, ◌≤◌, Bool, ◌||◌, List, [], ◌∷◌, ◌++◌, length, get_or, take, drop, Some, None, Option, sym, refl, ap, ◌∙◌, arith, add-zero, zero-add, length-drop, length-take}
-use Rattle.std.specs.Option.{option_map, option_or}
-use Rattle.std.specs.List.{list_any, find, range_with_len}
+use Rattle.std.proofs.Common.{◌≡◌, ℕ, suc, ◌+◌, ◌-◌, ◌<◌, ◌≤◌, Bool, true, false, ◌||◌, Bor, List, [], ◌∷◌, ◌++◌, length, get_or, take, drop, Some, None, Option, sym, refl, ap, ◌∙◌, arith, add-zero, zero-add, length-drop, length-take}
+use Rattle.std.specs.Option.{MatchOption, option_map, option_or}
+use Rattle.std.specs.Fn.{Called, Mut}
+use Rattle.std.specs.Iterator.{YieldsThen}
+use Rattle.std.specs.Slice.Iter.{iter_rest}
+use Rattle.std.proofs.lemmas.Fn.{fronts}
+use Rattle.std.proofs.lemmas.Iterator.{YieldsList-from_slice}
+use Rattle.std.proofs.lemmas.Iterator.Search.{any_from_yields_List}
+use Rattle.std.specs.List.{FoldsTo, list_any, find, range_with_len}
 use Rattle.std.proofs.lemmas.List.{get_or-drop, get_or-take, length-take-le}
 use Rattle.std.proofs.lemmas.List.Folds.{find-append}
+use Rattle.std.proofs.lemmas.List.Recursion.{same_from_clauses}
 use Rattle.std.proofs.lemmas.Iterator.Adapters.{option_map_id}
 use Rattle.reference.specs.Flows.{some, first, or_else, around}
 
 pub list_any_some : {A : Type 0} (p : A → Bool) (xs : List A) → list_any p xs ≡ some p xs
-list_any_some p [] = refl
-list_any_some p (x ∷ xs) = ap (λ b. p x || b) (list_any_some p xs)
+list_any_some p = same_from_clauses (list_any p) (some p) (λ x b. p x || b) refl (λ x xs. refl) (λ x xs. refl)
+
+-- what `any` answers over a slice, with p the test that it asks
+pub any_some :
+    {A F : Type 0} {s u : _} {g : Mut F (Bor A × Unit {0}) Bool} (p : A → Bool) (xs : List A) (f : F) (r : Bool)
+    → (ys : List (Bor A)) × (o : Option (Bor A)) × (j : F) × YieldsThen fronts s ys o u
+    × FoldsTo (λ h y k. Called g h (y, tt) false k) f ys j
+    × MatchOption o (r ≡ false) (λ y. (r ≡ true) × ((k : F) × Called g j (y, tt) true k))
+    → iter_rest s ≡ xs
+    → ((y : Bor A) (b : Bool) (k : F) → Called g f (y, tt) b k → (k ≡ f) × (b ≡ p y.now))
+    → r ≡ some p xs
+any_some p xs f r ran rest computes =
+    any_from_yields_List p _ f r ran (YieldsList-from_slice xs rest) computes ∙ list_any_some p xs
 
 option_or_or_else : (a b : Option ℕ) → option_or a b ≡ or_else a b
 option_or_or_else None b = refl
