@@ -39,7 +39,7 @@ impl Reference for RoundRobin {
 
     fn allowance(&self, flow: u8) -> Option<u32> {
         let weight = u32::from(self.quota(flow)?.weight);
-        let rest = self.total_weight() - weight;
+        let rest = u32::from(self.total) - weight;
         Some(2 * weight * rest)
     }
 
