@@ -1,2 +1,4 @@
-pub mod InTurn
+pub mod Told
+pub mod Changes
+pub mod Fresh
 pub mod PutBack

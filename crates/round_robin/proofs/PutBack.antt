@@ -9,13 +9,14 @@ use Rattle.std.proofs.lemmas.List.{get_or_past}
 use Rattle.reference.specs.Flows.{sum, around}
 use Rattle.reference.specs.Meaning.{SameNumbers}
 use Rattle.reference.proofs.Fronts.{front_each, back_front, back_sized}
-use Rattle.round_robin.specs.declared.quota.Quota.{Quota}
+use Rattle.round_robin_rule.specs.declared.quota.Quota.{Quota}
 use Rattle.round_robin.specs.declared.RoundRobin.{RoundRobin}
-use Rattle.round_robin.specs.RoundRobin.{Robin, pointing_at, no_quota, quota_at, quota_of, weight_of, is_due, ready, renewed, after_turn, switch, Kept, KeptBelow, Sound, round_robin}
+use Rattle.round_robin_rule.specs.Rule.{Robin, pointing_at, no_quota, quota_at, quota_of, weight_of, is_due, ready, renewed, after_turn, switch, Kept, KeptBelow, Sound, round_robin}
 use Rattle.round_robin.specs.View.{robin_held}
-use Rattle.round_robin.specs.Rounds.{quota_kept, renewed_kept}
-use Rattle.round_robin.specs.Laws.{robin_lawful, switch_past}
-use Rattle.round_robin.specs.Held.{held_length, held_sound, held_at, found_below}
+use Rattle.round_robin_rule.proofs.Rounds.{quota_kept, renewed_kept}
+use Rattle.round_robin_rule.proofs.Laws.{robin_lawful, switch_past}
+use Rattle.round_robin.specs.Held.{held_length, held_sound, held_at}
+use Rattle.round_robin.proofs.Changes.{found_below}
 
 -- A turn, whose quotas ms and pointer p are put back into the array.
 

@@ -1,6 +1,2 @@
-pub mod RoundRobin
 pub mod View
-pub mod Laws
-pub mod Rounds
-pub mod Arrears
 pub mod Held

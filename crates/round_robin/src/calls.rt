@@ -1,7 +1,7 @@
 ghost use Rattle.std.specs.Prelude.{◌≡◌};
-ghost use Rattle.round_robin.specs.RoundRobin.{round_robin, switch};
+ghost use Rattle.round_robin_rule.specs.Rule.{round_robin, switch};
 ghost use Rattle.round_robin.specs.View.{robin_held};
-ghost use Rattle.round_robin.specs.Laws.{robin_lawful};
+ghost use Rattle.round_robin_rule.proofs.Laws.{robin_lawful};
 ghost use Rattle.round_robin.specs.Held.{held_sound};
 
 use crate::RoundRobin;

@@ -1,9 +1,9 @@
 ghost use Rattle.std.specs.Prelude.{◌≡◌};
-ghost use Rattle.round_robin.specs.RoundRobin.{quota_of};
+ghost use Rattle.round_robin_rule.specs.Rule.{quota_of};
 ghost use Rattle.round_robin.specs.View.{robin_held};
 
 use crate::RoundRobin;
-use crate::quota::Quota;
+use round_robin_rule::quota::Quota;
 
 impl RoundRobin {
     /// What is held of the flows, flow 0 first.

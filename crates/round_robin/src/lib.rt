@@ -4,14 +4,13 @@
 
 ghost use Rattle.std.specs.Prelude.{◌≡◌, ◌<◌, ◌≤◌, length, take};
 ghost use Rattle.reference.specs.Flows.{sum};
-ghost use Rattle.round_robin.specs.RoundRobin.{KeptBelow, weight_of};
+ghost use Rattle.round_robin_rule.specs.Rule.{KeptBelow, weight_of};
 
-use crate::quota::Quota;
+use round_robin_rule::quota::Quota;
 
 mod calls;
 mod flows;
 mod of;
-mod quota;
 mod turns;
 
 /// Round robin over the flows of a table.

@@ -1,6 +1,6 @@
 ghost use Rattle.std.specs.Prelude.{◌≡◌};
 ghost use Rattle.table.specs.Layout.{flow_lines};
-ghost use Rattle.round_robin.specs.RoundRobin.{MarksInTurn, start};
+ghost use Rattle.round_robin_rule.specs.Rule.{MarksInTurn, start};
 ghost use Rattle.round_robin.specs.View.{robin_held};
 
 use crate::RoundRobin;

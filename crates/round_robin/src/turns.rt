@@ -1,10 +1,10 @@
 ghost use Rattle.std.specs.Prelude.{◌≡◌, ◌<◌, IfSome};
 ghost use Rattle.reference.specs.Flows.{around};
-ghost use Rattle.round_robin.specs.RoundRobin.{pointing_at, quota_at, ready, renewed};
+ghost use Rattle.round_robin_rule.specs.Rule.{pointing_at, quota_at, ready, renewed};
 ghost use Rattle.round_robin.specs.View.{robin_held};
 
 use crate::RoundRobin;
-use crate::quota::Quota;
+use round_robin_rule::quota::Quota;
 
 impl RoundRobin {
     /// Begins a new round if flows are due and none of them is ready.

@@ -2,8 +2,8 @@
 use Rattle.std.specs.Prelude.{◌≡◌, ℕ, List, [], ◌∷◌, Some, None, Option}
 use Rattle.reference.specs.Calls.{Call, marks_of, turns_then}
 use Rattle.reference.specs.Calls.Call.{turning, entering, leaving}
-use Rattle.round_robin.specs.RoundRobin.{round_robin}
-use Rattle.round_robin.specs.RoundRobin.{start as robin_start}
+use Rattle.round_robin_rule.specs.Rule.{round_robin}
+use Rattle.round_robin_rule.specs.Rule.{start as robin_start}
 use Rattle.table.specs.declared.line.Line.{Line}
 use Rattle.tag_rule.specs.Rule.{start as tags_start, rule_marks}
 

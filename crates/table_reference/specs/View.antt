@@ -2,7 +2,7 @@
 use Rattle.std.specs.Prelude.{◌≡◌, ◌⊎◌, Some}
 use Rattle.std.proofs.Common.{inl, inr}
 use Rattle.reference.specs.Meaning.{Meaning}
-use Rattle.round_robin.specs.RoundRobin.{Robin, round_robin, start}
+use Rattle.round_robin_rule.specs.Rule.{Robin, round_robin, start}
 use Rattle.round_robin.specs.View.{robin_held}
 use Rattle.table.specs.Layout.{kind_of, flow_lines}
 use Rattle.table.specs.declared.line.Kind.TheVariants.{RoundRobin as OfRoundRobin}

@@ -1,11 +1,11 @@
 ghost use Rattle.table_reference.specs.View.{own, own_held};
-ghost use Rattle.round_robin.specs.RoundRobin.{round_robin};
-ghost use Rattle.round_robin.specs.Laws.{robin_lawful};
+ghost use Rattle.round_robin_rule.specs.Rule.{round_robin};
+ghost use Rattle.round_robin_rule.proofs.Laws.{robin_lawful};
 ghost use Rattle.tag_rule.specs.Tags as SpecsTags;
 ghost use Rattle.tag_rule.proofs.Laws.{tags_lawful};
 ghost use Rattle.table_reference.specs.EitherLaws.{either_lawful};
 ghost use Rattle.round_robin.specs.Held.{held_sound as robin_sound};
-ghost use Rattle.tags.specs.Stored.{held_sound as tags_sound};
+ghost use Rattle.tags.specs.Held.{held_sound as tags_sound};
 ghost use Rattle.table_reference.specs.declared.TableReference.TheVariants.{RoundRobin, Tags};
 
 use crate::TableReference;

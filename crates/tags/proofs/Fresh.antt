@@ -13,7 +13,7 @@ use Rattle.tag_rule.specs.Rule.{no_stamp, stamp_at, fresh, lowest, time_after}
 use Rattle.tag_rule.specs.Tags.{with_lookahead, seen, weight_of, advance, Kept, KeptBelow}
 use Rattle.tags.specs.View.{table_clock}
 use Rattle.tag_rule.proofs.Laws.{later_none}
-use Rattle.tags.specs.Stored.{front_at}
+use Rattle.tags.specs.Held.{front_at}
 
 none_due : (ls : List Line) → lowest (map fresh ls) ≡ None
 none_due [] = refl

@@ -1,3 +1,5 @@
 pub mod Steps
 pub mod Fresh
+pub mod Stored
+pub mod Told
 pub mod PutBack

@@ -18,7 +18,8 @@ use Rattle.tags.specs.declared.Tags.{Tags}
 use Rattle.tag_rule.specs.Rule.{no_stamp, stamp_at, marked}
 use Rattle.tag_rule.specs.Tags.{Tagged, with_lookahead, clock, held_after, stamp_of, weight_of, is_due, advance, settled, switching, Kept, KeptBelow, Sound, tags}
 use Rattle.tags.specs.View.{tags_held}
-use Rattle.tags.specs.Stored.{front_at, held_length, held_sound, Stored}
+use Rattle.tags.specs.Held.{front_at, held_length, held_sound}
+use Rattle.tags.proofs.Stored.{Stored}
 use Rattle.tag_rule.proofs.Laws.{flagged, switched_is, tags_lawful, picked_parts, stamp_kept, switch_past}
 
 pub all_below : (p : ℕ) (ss : List Stamp) → AllByRecursion (Kept p) ss → KeptBelow p ss (length ss)

@@ -1,2 +1,2 @@
 pub mod View
-pub mod Stored
+pub mod Held

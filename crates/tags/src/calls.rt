@@ -2,7 +2,7 @@ ghost use Rattle.std.specs.Prelude.{◌≡◌};
 ghost use Rattle.tag_rule.specs.Tags.{held_after, switching, tags};
 ghost use Rattle.tags.specs.View.{tags_held};
 ghost use Rattle.tag_rule.proofs.Laws.{tags_lawful};
-ghost use Rattle.tags.specs.Stored.{held_sound};
+ghost use Rattle.tags.specs.Held.{held_sound};
 
 use crate::Tags;
 use reference::Reference;

@@ -2,7 +2,7 @@ use Rattle.std.proofs.Common.{◌-◌, take, sym, refl, rules, arith, tests}
 use Rattle.std.proofs.lemmas.Iterator.{YieldsList-from_range}
 use Rattle.std.proofs.lemmas.Iterator.Consumers.{YieldsList-from_chain}
 use Rattle.std.proofs.lemmas.Iterator.Search.{find_from_yields_List}
-use Rattle.round_robin.specs.RoundRobin.{no_quota, quota_at, ready}
+use Rattle.round_robin_rule.specs.Rule.{no_quota, quota_at, ready}
 use Rattle.round_robin.specs.Held.{held_length}
 use Rattle.reference.proofs.FirstFound.{found_around}
 use Rattle.round_robin.proofs.RoundRobin.next_ready.Goals as goal

@@ -1,9 +1,9 @@
 use Rattle.std.proofs.Common.{take, sym, ap, ◌∙◌, arith}
 use Rattle.std.proofs.lemmas.Slice.Zip.{AllZip-map}
 use Rattle.reference.specs.Flows.{sum}
-use Rattle.round_robin.specs.RoundRobin.{pointing_at, weight_of, fresh}
-use Rattle.round_robin.proofs.InTurn.{marks_in_turn}
-use Rattle.round_robin.specs.Held.{start_kept, start_summed}
+use Rattle.round_robin_rule.specs.Rule.{pointing_at, weight_of, fresh}
+use Rattle.round_robin_rule.proofs.InTurn.{marks_in_turn}
+use Rattle.round_robin.proofs.Fresh.{start_kept, start_summed}
 use Rattle.round_robin.proofs.RoundRobin.of.Goals as goal
 
 pub invariant_of-result : goal.invariant_of-result

@@ -1,9 +1,9 @@
 use Rattle.std.proofs.Common.{take, get_or, sym, ap, ◌∙◌, arith, rules, tests}
 use Rattle.std.proofs.lemmas.List.Edits.{map_over_more}
 use Rattle.std.proofs.lemmas.List.{get_or_default}
-use Rattle.round_robin.specs.RoundRobin.{no_quota, pointing_at, unused, is_due, ready}
-use Rattle.round_robin.specs.Rounds.{renewed_anew, renewed_none_due, renewed_some_ready}
-use Rattle.round_robin.specs.Held.{reset_all, reset_kept, reset_front, reset_summed}
+use Rattle.round_robin_rule.specs.Rule.{no_quota, pointing_at, unused, is_due, ready}
+use Rattle.round_robin_rule.proofs.Rounds.{renewed_anew, renewed_none_due, renewed_some_ready}
+use Rattle.round_robin.proofs.Changes.{reset_all, reset_kept, reset_front, reset_summed}
 use Rattle.reference.proofs.FirstFound.{any_some}
 use Rattle.round_robin.proofs.RoundRobin.renew.Goals as goal
 use Rattle.round_robin.proofs.RoundRobin.renew.Goals.{else-any-via-then-any+else-not-any, else-any-via-else-any}

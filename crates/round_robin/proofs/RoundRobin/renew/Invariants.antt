@@ -1,5 +1,5 @@
 use Rattle.std.proofs.Common.{◌≡◌, ◌++◌, map, length, take, drop}
-use Rattle.round_robin.specs.RoundRobin.{unused}
+use Rattle.round_robin_rule.specs.Rule.{unused}
 use Rattle.round_robin.proofs.RoundRobin.renew.Given as goal
 
 -- so many flows are reset

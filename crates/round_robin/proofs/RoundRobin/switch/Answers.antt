@@ -1,5 +1,5 @@
 use Rattle.std.proofs.Common.{refl, arith, rules}
-use Rattle.round_robin.specs.Held.{set_kept, set_summed, switch_inside}
+use Rattle.round_robin.proofs.Changes.{set_kept, set_summed, switch_inside}
 use Rattle.round_robin.proofs.RoundRobin.switch.Goals as goal
 
 pub invariant_of-self-clause-kept : goal.invariant_of-self-clause-kept

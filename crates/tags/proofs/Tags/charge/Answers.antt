@@ -1,6 +1,6 @@
 use Rattle.std.proofs.Common.{ap, arith}
 use Rattle.tag_rule.specs.Tags.{weight_of}
-use Rattle.tags.specs.Stored.{pick_below, pick_at, pick_kept, pick_tag}
+use Rattle.tags.proofs.Stored.{pick_below, pick_at, pick_kept, pick_tag}
 use Rattle.tags.proofs.Tags.charge.Goals as goal
 
 pub bounds-self-from : goal.bounds-self-from

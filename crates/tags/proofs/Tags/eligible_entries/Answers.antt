@@ -1,6 +1,6 @@
 use Rattle.std.proofs.Common.{◌<◌, length, None, Some, sym, ap, ◌∙◌, lit<, append-nil, arith}
 use Rattle.tags.specs.View.{tags_held}
-use Rattle.tags.specs.Stored.{held_length}
+use Rattle.tags.specs.Held.{held_length}
 use Rattle.tags.proofs.Steps.{found_few, found_more}
 use Rattle.tags.proofs.Tags.eligible_entries.Goals as goal
 use Rattle.tags.proofs.Tags.eligible_entries.Goals.{in-Some, in_default}

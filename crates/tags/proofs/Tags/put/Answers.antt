@@ -1,4 +1,4 @@
-use Rattle.tags.specs.Stored.{put_stored, put_holds}
+use Rattle.tags.proofs.Stored.{put_stored, put_holds}
 use Rattle.tags.proofs.Tags.put.Goals as goal
 
 pub invariant_of-self : goal.invariant_of-self

@@ -1,7 +1,8 @@
 use Rattle.std.proofs.Common.{◌∙◌, sym}
 use Rattle.tag_rule.proofs.Laws.{switched_is, switch_past}
 use Rattle.tags.specs.View.{tags_held}
-use Rattle.tags.specs.Stored.{held_sound, none_outside}
+use Rattle.tags.specs.Held.{held_sound}
+use Rattle.tags.proofs.Told.{none_outside}
 use Rattle.tags.proofs.Tags.switch.Goals as goal
 
 pub returns-in_default : goal.returns-in_default

@@ -1,6 +1,6 @@
 use Rattle.std.proofs.Common.{arith, rules}
 use Rattle.round_robin.specs.View.{robin_held}
-use Rattle.round_robin.specs.Held.{weight_in_total, allowance_told}
+use Rattle.round_robin.proofs.Told.{weight_in_total, allowance_told}
 use Rattle.round_robin.proofs.calls.RoundRobinReference.allowance.Goals as goal
 
 pub overflow_sub-rest : goal.overflow_sub-rest

@@ -1,7 +1,7 @@
 use Rattle.std.proofs.Common.{Some, refl, ap, ◌∙◌, arith, rules}
-use Rattle.round_robin.specs.RoundRobin.{after_mark}
+use Rattle.round_robin_rule.specs.Rule.{after_mark}
 use Rattle.round_robin.specs.View.{robin_held}
-use Rattle.round_robin.specs.Held.{set_kept, set_summed, mark_inside, mark_kept, mark_held, turn_marks, turn_leaves}
+use Rattle.round_robin.proofs.Changes.{set_kept, set_summed, mark_inside, mark_kept, mark_held, turn_marks, turn_leaves}
 use Rattle.round_robin.proofs.calls.RoundRobinReference.turn.Goals as goal
 
 pub overflow_add-self : goal.overflow_add-self

@@ -4,7 +4,8 @@ use Rattle.reference.specs.Flows.{others}
 use Rattle.tag_rule.specs.Rule.{stamp_at}
 use Rattle.tag_rule.specs.Tags.{weight_of}
 use Rattle.tags.specs.View.{tags_held}
-use Rattle.tags.specs.Stored.{held_length, stamp_found, others_weight}
+use Rattle.tags.specs.Held.{held_length}
+use Rattle.tags.proofs.Told.{stamp_found, others_weight}
 use Rattle.tags.proofs.calls.TagsReference.allowance.Goals as goal
 
 pub overflow_sub-rest : goal.overflow_sub-rest

@@ -1,4 +1,4 @@
-use Rattle.tags.specs.Stored.{unmarked_same}
+use Rattle.tags.proofs.Stored.{unmarked_same}
 use Rattle.tags.proofs.calls.TagsReference.turn.Goals as goal
 
 pub returns-in_err-flow-clause-after : goal.returns-in_err-flow-clause-after

@@ -4,8 +4,8 @@ use Rattle.std.proofs.lemmas.List.{get_or_past}
 use Rattle.std.proofs.lemmas.Bool.{cases_lt}
 use Rattle.reference.specs.Flows.{away}
 use Rattle.reference.proofs.Searches.{around_passes, around_none, around_passes_over}
-use Rattle.round_robin.specs.RoundRobin.{no_quota, ready, renewed, chosen, FirstInTurn, MarksInTurn}
-use Rattle.round_robin.specs.Rounds.{renewed_length}
+use Rattle.round_robin_rule.specs.Rule.{no_quota, ready, renewed, chosen, FirstInTurn, MarksInTurn}
+use Rattle.round_robin_rule.proofs.Rounds.{renewed_length}
 
 pub marks_in_turn : MarksInTurn
 marks_in_turn h s = split (chosen h) refl

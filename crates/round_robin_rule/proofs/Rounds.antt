@@ -1,4 +1,4 @@
--- Proofs, for the laws: the quotas of the flows, and what the beginning of a round leaves of them.
+-- The quotas of the flows, and what the beginning of a round leaves of them.
 use Rattle.std.specs.Prelude.{◌≡◌, ℕ, ◌<◌, ◌≤◌, true, false, not, ◌&&◌, List, map, length, refl}
 use Rattle.std.proofs.Common.{sym, ap, subst, ◌∙◌, ⊎_elim, arith}
 use Rattle.std.specs.List.{AllByRecursion}
@@ -8,8 +8,8 @@ use Rattle.std.proofs.lemmas.Bool.{cases_lt, cases_Bool, and_parts, not-true}
 use Rattle.reference.specs.Flows.{sum, others, some}
 use Rattle.reference.proofs.Fields.{part_map}
 use Rattle.reference.proofs.Totals.{sum_map, others_map, others_le}
-use Rattle.round_robin.specs.declared.quota.Quota.{Quota}
-use Rattle.round_robin.specs.RoundRobin.{no_quota, quota_at, weight_of, used_of, is_due, ready, unused, renewed, Kept}
+use Rattle.round_robin_rule.specs.declared.quota.Quota.{Quota}
+use Rattle.round_robin_rule.specs.Rule.{no_quota, quota_at, weight_of, used_of, is_due, ready, unused, renewed, Kept}
 
 -- Quotas that are kept.
 

@@ -1,4 +1,4 @@
--- Proofs, for the laws: what the beginning of a round and a mark do to the arrears.
+-- What the beginning of a round and a mark do to the arrears.
 use Rattle.std.specs.Prelude.{◌≡◌, ℕ, zero, suc, ◌+◌, ◌-◌, ◌*◌, ◌<◌, ◌≤◌, true, false, ◌≢◌, List, [], ◌∷◌, map, length, nat_lt, slice_set, refl}
 use Rattle.std.proofs.Common.{sym, ap, ◌∙◌, arith, mul-add, mul_comm, mul_assoc, mul-le-mul_left}
 use Rattle.std.specs.List.{AllByRecursion}
@@ -9,9 +9,9 @@ use Rattle.reference.specs.Meaning.{whole}
 use Rattle.reference.proofs.Fields.{part_map}
 use Rattle.reference.proofs.Searches.{some_none}
 use Rattle.reference.proofs.Totals.{others_set_same, others_set, others_map}
-use Rattle.round_robin.specs.declared.quota.Quota.{Quota}
-use Rattle.round_robin.specs.RoundRobin.{no_quota, quota_at, weight_of, used_of, ready, spent, unused, renewed, arrears, Kept}
-use Rattle.round_robin.specs.Rounds.{used_le, due_inside, renewed_cases}
+use Rattle.round_robin_rule.specs.declared.quota.Quota.{Quota}
+use Rattle.round_robin_rule.specs.Rule.{no_quota, quota_at, weight_of, used_of, ready, spent, unused, renewed, arrears, Kept}
+use Rattle.round_robin_rule.proofs.Rounds.{used_le, due_inside, renewed_cases}
 
 -- Numbers: of a flow of weight r that has used u, where the others have weight w and have used o.
 

@@ -15,7 +15,7 @@ pub struct Quota {
 
 /// What is held of a flow of a table before its first turn.
 impl From<Line> for Quota {
-    ghost use Rattle.round_robin.specs.RoundRobin.{fresh};
+    ghost use Rattle.round_robin_rule.specs.Rule.{fresh};
 
     ghost from_gives = { λ line quota. quota ≡ fresh line };
 
@@ -28,10 +28,10 @@ impl From<Line> for Quota {
 }
 
 impl Quota {
-    ghost use Rattle.round_robin.specs.RoundRobin.{ready};
+    ghost use Rattle.round_robin_rule.specs.Rule.{ready};
 
     /// Whether a turn may mark the flow: it is due and has used below its weight.
-    pub(crate) fn is_ready(&self) -> bool
+    pub fn is_ready(&self) -> bool
         ensures { result ≡ ready self.now }
     {
         self.due && self.used < self.weight

@@ -1,38 +1,19 @@
--- Proofs, for the laws and the code: the array of the code and the stamps that it stands for.
-use Rattle.std.specs.Prelude.{◌≡◌, ℕ, ◌-◌, ◌*◌, ◌<◌, ◌≤◌, List, length, map, take, Some, None, slice_set}
+-- The array of the code and the stamps that it stands for, when a call changes them.
+use Rattle.std.specs.Prelude.{◌≡◌, ℕ, ◌*◌, ◌<◌, ◌≤◌, List, length, map, take, Some, None, slice_set}
 use Rattle.std.proofs.Common.{sym, ap, subst, ◌∙◌, arith, length-set}
 use Rattle.std.specs.List.{AllByRecursion}
-use Rattle.std.proofs.lemmas.List.{get_or-take, take-map, length-map}
-use Rattle.std.proofs.lemmas.Bool.Decides.{nat_tests}
+use Rattle.std.proofs.lemmas.List.{take-map, length-map}
 use Rattle.reference.specs.Calls.Call.{turning}
-use Rattle.reference.specs.Flows.{sum, others}
-use Rattle.reference.proofs.Fronts.{front_length, front_all, front_each}
+use Rattle.reference.specs.Flows.{sum}
+use Rattle.reference.proofs.Fronts.{front_each}
 use Rattle.reference.proofs.Steps.{take_set}
-use Rattle.reference.proofs.Totals.{sum_split}
 use Rattle.tag_rule.specs.declared.stamp.Stamp.{Stamp}
 use Rattle.tags.specs.declared.Tags.{Tags}
 use Rattle.tag_rule.specs.Rule.{no_stamp, stamp_at, marked, charge}
-use Rattle.tag_rule.specs.Tags.{with_lookahead, clock, held_after, stamp_of, weight_of, advance, later, settled, Kept, KeptBelow, Sound}
+use Rattle.tag_rule.specs.Tags.{with_lookahead, clock, held_after, weight_of, advance, later, settled, Kept, KeptBelow}
 use Rattle.tags.specs.View.{tags_held}
 use Rattle.tag_rule.proofs.Laws.{picked_parts, changed_sound, changed_numbers, settled_same}
-
--- what the array holds of a flow, its front does
-pub front_at : (ss : List Stamp) (n k : ℕ) → k < n → stamp_at (take n ss) k ≡ stamp_at ss k
-front_at ss n k h = get_or-take n ss k no_stamp h
-
-pub held_length : (t : Tags) → length (take t.count t.stamps) ≡ t.count
-held_length t = front_length t.stamps t.count t.sized t.few
-
-pub held_sound : (t : Tags) → Sound (tags_held t)
-held_sound t =
-    let e = held_length t in
-    record {
-      some_flows = omega (arith, e, t.some);
-      few_flows = omega (arith, e, t.few);
-      looks = t.looks;
-      kept = front_all t.stamps t.count t.sized t.few (Kept t.lookahead) no_stamp t.kept;
-      on_time = t.on_time;
-    }
+use Rattle.tags.specs.Held.{held_length, held_sound, front_at}
 
 -- What the struct keeps of its array: here of the array zs.
 pub record Stored (t : Tags) (zs : List Stamp) : Type 0 where
@@ -91,23 +72,3 @@ module _ (t : Tags) (f i : ℕ) (q : i ≡ f) (e : Some f ≡ marked (clock (tag
 
   pub pick_tag : (stamp_at t.stamps i).tag ≤ t.lookahead * 720720
   pick_tag = subst (λ (s : Stamp). s.tag ≤ t.lookahead * 720720) (sym pick_at) (picked_parts (tags_held t) f (sym e)).2
-
--- What a question finds of flow f.
-module _ (t : Tags) (f : ℕ) where
-  pub stamp_found :
-      (s : Stamp) → Some s ≡ stamp_of (tags_held t) f
-      → (f < length (tags_held t).stamps) × (s ≡ stamp_at (tags_held t).stamps f)
-  stamp_found s e = grind (arith, nat_tests)
-
-  pub none_outside : None ≡ stamp_of (tags_held t) f → length (tags_held t).stamps ≤ f
-  none_outside e = grind (arith, nat_tests)
-
-  -- the weight of the others
-  pub others_weight :
-      (s : Stamp) → Some s ≡ stamp_of (tags_held t) f
-      → (s.weight ≤ t.total) × (t.total - s.weight ≡ others weight_of (tags_held t).stamps f)
-  others_weight s e =
-      let found = stamp_found s e in
-      let w : s.weight ≡ (stamp_at (tags_held t).stamps f).weight = ap weight_of found.1 in
-      let sums = sum_split weight_of no_stamp (tags_held t).stamps f found.0 in
-      (omega (arith, t.summed, w, sums), omega (arith, t.summed, w, sums))

@@ -1,4 +1,4 @@
--- Proofs: round robin keeps the laws of a reference.
+-- Round robin keeps the laws of a reference.
 use Rattle.std.specs.Prelude.{◌≡◌, ℕ, ◌+◌, ◌-◌, ◌*◌, ◌<◌, ◌≤◌, Bool, true, false, not, ◌&&◌, ltb, ◌≢◌, List, map, length, Some, None, Option, nat_lt, slice_set, refl}
 use Rattle.std.proofs.Common.{sym, ap, subst, ◌∙◌, ⊎_elim, arith, length-set}
 use Rattle.std.specs.List.{AllByRecursion}
@@ -12,8 +12,8 @@ use Rattle.reference.specs.Meaning.{Lawful, SameNumbers, whole}
 use Rattle.reference.proofs.Fields.{part_set}
 use Rattle.reference.proofs.Searches.{around_passes, around_none, some_none}
 use Rattle.reference.proofs.Totals.{sum_split, sum_below_is, sum_kept, others_kept}
-use Rattle.round_robin.specs.declared.quota.Quota.{Quota}
-use Rattle.round_robin.specs.RoundRobin.{
+use Rattle.round_robin_rule.specs.declared.quota.Quota.{Quota}
+use Rattle.round_robin_rule.specs.Rule.{
   Robin,
   pointing_at,
   no_quota,
@@ -35,8 +35,8 @@ use Rattle.round_robin.specs.RoundRobin.{
   Sound,
   round_robin,
 }
-use Rattle.round_robin.specs.Rounds.{quota_kept, used_le, due_inside, renewed_length, renewed_kept, renewed_part, renewed_others, renewed_sum}
-use Rattle.round_robin.specs.Arrears.{within, renewed_arrears, spent_raises, spent_lowers}
+use Rattle.round_robin_rule.proofs.Rounds.{quota_kept, used_le, due_inside, renewed_length, renewed_kept, renewed_part, renewed_others, renewed_sum}
+use Rattle.round_robin_rule.proofs.Arrears.{within, renewed_arrears, spent_raises, spent_lowers}
 
 -- Entering and leaving.
 

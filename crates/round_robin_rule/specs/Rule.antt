@@ -4,7 +4,7 @@ use Rattle.std.specs.List.{AllByRecursion}
 use Rattle.table.specs.declared.line.Line.{Line}
 use Rattle.reference.specs.Flows.{sum, others, some, around, away}
 use Rattle.reference.specs.Meaning.{Meaning, whole}
-use Rattle.round_robin.specs.declared.quota.Quota.{Quota}
+use Rattle.round_robin_rule.specs.declared.quota.Quota.{Quota}
 
 -- what it holds: a quota of each flow, flow 0 first, and the flow that the next turn looks at first
 pub record Robin : Type 0 where

@@ -1,0 +1,4 @@
+pub mod Rounds
+pub mod Arrears
+pub mod Laws
+pub mod InTurn
