@@ -13,6 +13,10 @@ use Rattle.fault.specs.declared.RecordFault.{RecordFault}
 use Rattle.fault.specs.declared.RecordFault.TheVariants.{Length as RecordLength, Version as RecordVersion, Field}
 use Rattle.fault.specs.declared.WriteFault.{WriteFault}
 use Rattle.fault.specs.declared.WriteFault.TheVariants.{NoRoom}
+use Rattle.fault.specs.declared.ArrivalFault.{ArrivalFault}
+use Rattle.fault.specs.declared.ArrivalFault.TheVariants.{NoSuchFlow as NoFlowToArriveFor, TooMany}
+use Rattle.fault.specs.declared.FlagFault.{FlagFault}
+use Rattle.fault.specs.declared.FlagFault.TheVariants.{NoSuchFlow as NoFlowToFlag, FlaggedAlready}
 
 abbrev pub refused : ℕ → ℕ → Layer → Refusal
 refused n b l = record { number = n; byte = b; layer = l }
@@ -40,3 +44,11 @@ record_number Field = 15
 
 abbrev pub write_number : WriteFault → ℕ
 write_number NoRoom = 12
+
+abbrev pub arrival_number : ArrivalFault → ℕ
+arrival_number NoFlowToArriveFor = 6
+arrival_number TooMany = 7
+
+abbrev pub flag_number : FlagFault → ℕ
+flag_number NoFlowToFlag = 9
+flag_number FlaggedAlready = 10

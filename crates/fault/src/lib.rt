@@ -1,9 +1,9 @@
-//! Every fault of the two byte formats, and what it tells: its number, and of a table's fault the byte and the layer.
+//! Every fault, and what it tells: its number, and of a table's fault the byte and the layer.
 
 #![tactic(auto)]
 
 ghost use Rattle.std.specs.Prelude.{◌≡◌};
-ghost use Rattle.fault.specs.Faults.{frame_told, header_told, line_told, record_number, write_number};
+ghost use Rattle.fault.specs.Faults.{arrival_number, flag_number, frame_told, header_told, line_told, record_number, write_number};
 ghost use Rattle.fault.specs.declared.HeaderFault.TheVariants.{Frame};
 ghost use Rattle.fault.specs.declared.LineFault.TheVariants.{Header};
 
@@ -210,6 +210,52 @@ impl WriteFault {
     {
         match self {
             WriteFault::NoRoom => 12,
+        }
+    }
+}
+
+/// Why no packets arrived.
+#[derive(Clone, Copy, PartialEq, Eq, Debug, Error)]
+pub enum ArrivalFault {
+    /// A flow past the last of the cell.
+    #[error("the cell has no such flow")]
+    NoSuchFlow,
+    /// More packets than can arrive for one flow.
+    #[error("more than 1,000,000,000 packets would have arrived for the flow")]
+    TooMany,
+}
+
+impl ArrivalFault {
+    /// The number of the refusal, for whoever is told of it: in the code the enum stands for it.
+    pub fn number(self) -> u8
+        ensures { result ≡ arrival_number self }
+    {
+        match self {
+            ArrivalFault::NoSuchFlow => 6,
+            ArrivalFault::TooMany => 7,
+        }
+    }
+}
+
+/// Why a flow did not flag.
+#[derive(Clone, Copy, PartialEq, Eq, Debug, Error)]
+pub enum FlagFault {
+    /// A flow past the last that the set is for.
+    #[error("the report set has no such flow")]
+    NoSuchFlow,
+    /// A second flag of one flow.
+    #[error("the flow has flagged already")]
+    FlaggedAlready,
+}
+
+impl FlagFault {
+    /// The number of the refusal, for whoever is told of it: in the code the enum stands for it.
+    pub fn number(self) -> u8
+        ensures { result ≡ flag_number self }
+    {
+        match self {
+            FlagFault::NoSuchFlow => 9,
+            FlagFault::FlaggedAlready => 10,
         }
     }
 }
