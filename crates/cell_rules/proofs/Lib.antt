@@ -1,0 +1,6 @@
+pub mod Found
+pub mod Settling
+pub mod Booking
+pub mod Touched
+pub mod RecordFits
+pub mod InOrder

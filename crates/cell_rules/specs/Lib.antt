@@ -1,0 +1,5 @@
+pub mod Rules
+pub mod Facts
+pub mod Bookable
+pub mod RecordFits
+pub mod InOrder
