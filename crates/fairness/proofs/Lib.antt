@@ -1,0 +1,10 @@
+pub mod Runs
+pub mod Keeping
+pub mod Twin
+pub mod Same
+pub mod NotBehind
+pub mod Shares
+pub mod Senders
+pub mod Forfeits
+pub mod Arrivals
+pub mod Fair
