@@ -1,0 +1,11 @@
+mod Upward
+mod LeadersFound
+mod FirstLeader
+mod RingStays
+pub mod FlowSets
+pub mod LedgerFresh
+pub mod LedgerFront
+pub mod LedgerArrivals
+pub mod LedgerSteps
+pub mod LedgerBooking
+pub mod Settled

@@ -1,0 +1,32 @@
+-- What a report set of the code holds, and what flagging answers.
+use Rattle.std.specs.Prelude.{◌≡◌, ◌≢◌, ℕ, ◌<◌, Bool, true, false, Some, None, Ok, Err, Result}
+use Rattle.fault.specs.Faults.{flag_number}
+use Rattle.fault.specs.declared.FlagFault.{FlagFault}
+use Rattle.cell_rules.specs.Rules.{Reports as ReportSet, flag_refusal, flags_clean, has, with_flag}
+use Rattle.cell.specs.declared.reports.Reports.{Reports}
+
+-- its slot, its number of flows, and the bits of both sets
+abbrev pub reports_held : Reports → ReportSet
+reports_held r =
+    record {
+      slot = r.slot;
+      flow_count = r.flow_count;
+      flagged = r.flagged.bits;
+      clean = r.clean.bits;
+    }
+
+-- flow f asks to flag, clean or dirty, in the set s, which is then the set t
+abbrev pub Flagged : ReportSet → ℕ → Bool → ReportSet → Result Unit FlagFault → Type 0
+Flagged s f clean t (Ok _) = (flag_refusal s f ≡ None) × (t ≡ with_flag s f clean)
+Flagged s f clean t (Err e) = (flag_refusal s f ≡ Some (flag_number e)) × (t ≡ s)
+
+-- t is s with the flag of flow f, clean or dirty, and nothing else
+pub record OneMore (s : ReportSet) (f : ℕ) (clean : Bool) (t : ReportSet) : Type 0 where
+  pub of_the_cell : f < s.flow_count
+  pub first : has s.flagged f ≡ false
+  pub now : has t.flagged f ≡ true
+  pub as_flagged : flags_clean t f ≡ clean
+  pub other_flags : (g : ℕ) → g ≢ f → has t.flagged g ≡ has s.flagged g
+  pub other_reports : (g : ℕ) → g ≢ f → flags_clean t g ≡ flags_clean s g
+  pub slot : t.slot ≡ s.slot
+  pub flow_count : t.flow_count ≡ s.flow_count

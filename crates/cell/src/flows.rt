@@ -1,0 +1,76 @@
+ghost use Rattle.std.specs.Prelude.{ℕ, ◌<◌, ◌≤◌, length};
+ghost use Rattle.cell_rules.specs.Rules.{at};
+ghost use Rattle.cell_rules.specs.Facts.{Facts};
+
+use crate::flow_set::FlowSet;
+use cell_rules::row::Row;
+
+/// What is known of the flows before a slot: what is counted of each, and who is clean.
+#[derive(Clone, Copy)]
+pub(crate) struct Flows<'a> {
+    /// What is counted of each flow.
+    pub(crate) rows: &'a [Row],
+    /// Who is clean.
+    pub(crate) clean: FlowSet,
+    ghost few: { length rows.now ≤ 16 },
+    ghost facts: { (f : ℕ) → f < length rows.now → Facts (at rows.now f) },
+}
+
+impl Flows<'_> {
+    ghost use Rattle.std.specs.Prelude.{◌≡◌, ◌&&◌, nat_lt};
+    ghost use Rattle.cell_rules.specs.Rules.{waiting, able, lowest_able, repayable};
+    ghost use Rattle.cell_rules.specs.InOrder.{LowestAble};
+    ghost use Rattle.cell.specs.FlowsView.{clean_of, rows_of};
+
+    /// The number of the flows.
+    pub(crate) fn count(&self) -> u8
+        ensures { result ≡ length (rows_of self.now) }
+    {
+        self.rows.len() as u8
+    }
+
+    /// What is counted of a flow; past the last one, nothing.
+    pub(crate) fn row(&self, flow: u8) -> Row
+        ensures { result ≡ at (rows_of self.now) flow }
+    {
+        self.rows
+            .get(usize::from(flow))
+            .copied()
+            .unwrap_or_default()
+    }
+
+    /// Whether a flow with this row can send: it is waiting and clean.
+    fn can_send(&self, flow: u8, row: &Row) -> bool
+        ensures { result ≡ (nat_lt 0 (waiting row.now) && clean_of self.now flow) }
+    {
+        row.waiting() > 0 && self.clean.contains(flow)
+    }
+
+    /// Whether a flow is waiting and clean; a number past the last flow never is.
+    pub(crate) fn is_able(&self, flow: u8) -> bool
+        ensures { result ≡ able (rows_of self.now) (clean_of self.now) flow }
+    {
+        self.can_send(flow, &self.row(flow))
+    }
+
+    /// Whether a flow is lagging and able.
+    pub(crate) fn is_repayable(&self, flow: u8) -> bool
+        ensures { result ≡ repayable (rows_of self.now) (clean_of self.now) flow }
+    {
+        self.row(flow).lags() && self.is_able(flow)
+    }
+
+    /// The lowest flow that is able.
+    pub(crate) fn lowest_able(&self) -> Option<u8>
+        ensures exact { result ≡ lowest_able (rows_of self.now) (clean_of self.now) }
+        ensures lowest { LowestAble (rows_of self.now) (clean_of self.now) result }
+    {
+        for (place, row) in self.rows.iter().enumerate() {
+            let flow = place as u8;
+            if self.can_send(flow, row) {
+                return Some(flow);
+            }
+        }
+        None
+    }
+}
