@@ -9,14 +9,24 @@ use Rattle.fault.specs.declared.HeaderFault.{HeaderFault}
 use Rattle.fault.specs.declared.HeaderFault.TheVariants.{Frame as InFrame, Kind, Lookahead, FlowCount}
 use Rattle.fault.specs.declared.LineFault.{LineFault}
 use Rattle.fault.specs.declared.LineFault.TheVariants.{Header as InHeader, Weight, DelayWeight}
+use Rattle.fault.specs.declared.CreationFault.{CreationFault}
+use Rattle.fault.specs.declared.CreationFault.TheVariants.{Table as InTable, FlowCount as OtherFlowCount}
 use Rattle.fault.specs.declared.RecordFault.{RecordFault}
 use Rattle.fault.specs.declared.RecordFault.TheVariants.{Length as RecordLength, Version as RecordVersion, Field}
 use Rattle.fault.specs.declared.WriteFault.{WriteFault}
 use Rattle.fault.specs.declared.WriteFault.TheVariants.{NoRoom}
 use Rattle.fault.specs.declared.ArrivalFault.{ArrivalFault}
 use Rattle.fault.specs.declared.ArrivalFault.TheVariants.{NoSuchFlow as NoFlowToArriveFor, TooMany}
+use Rattle.fault.specs.declared.OpeningFault.{OpeningFault}
+use Rattle.fault.specs.declared.OpeningFault.TheVariants.{AllDecided}
 use Rattle.fault.specs.declared.FlagFault.{FlagFault}
 use Rattle.fault.specs.declared.FlagFault.TheVariants.{NoSuchFlow as NoFlowToFlag, FlaggedAlready}
+use Rattle.fault.specs.declared.DecisionFault.{DecisionFault}
+use Rattle.fault.specs.declared.DecisionFault.TheVariants.{NotForThisSlot}
+use Rattle.fault.specs.declared.EventFault.{EventFault}
+use Rattle.fault.specs.declared.EventFault.TheVariants.{Unknown, CutShort}
+use Rattle.fault.specs.declared.RunFault.{RunFault}
+use Rattle.fault.specs.declared.RunFault.TheVariants.{Creation, Arrival, Opening, Event}
 
 abbrev pub refused : ℕ → ℕ → Layer → Refusal
 refused n b l = record { number = n; byte = b; layer = l }
@@ -37,6 +47,11 @@ line_told (InHeader e) = header_told e
 line_told (Weight flow) = refused 5 (6 + 4 * flow) Line
 line_told (DelayWeight flow) = refused 5 (7 + 4 * flow) Line
 
+-- a flow count that is not the reference's is told as one that no table may have
+abbrev pub creation_told : CreationFault → Refusal
+creation_told (InTable e) = line_told e
+creation_told OtherFlowCount = refused 4 5 Header
+
 abbrev pub record_number : RecordFault → ℕ
 record_number RecordLength = 13
 record_number RecordVersion = 14
@@ -49,6 +64,22 @@ abbrev pub arrival_number : ArrivalFault → ℕ
 arrival_number NoFlowToArriveFor = 6
 arrival_number TooMany = 7
 
+abbrev pub opening_number : OpeningFault → ℕ
+opening_number AllDecided = 8
+
 abbrev pub flag_number : FlagFault → ℕ
 flag_number NoFlowToFlag = 9
 flag_number FlaggedAlready = 10
+
+abbrev pub decision_number : DecisionFault → ℕ
+decision_number NotForThisSlot = 11
+
+abbrev pub event_number : EventFault → ℕ
+event_number Unknown = 16
+event_number CutShort = 16
+
+abbrev pub run_number : RunFault → ℕ
+run_number (Creation e) = (creation_told e).number
+run_number (Arrival e) = arrival_number e
+run_number (Opening e) = opening_number e
+run_number (Event e) = event_number e

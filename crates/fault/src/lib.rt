@@ -3,9 +3,24 @@
 #![tactic(auto)]
 
 ghost use Rattle.std.specs.Prelude.{◌≡◌};
-ghost use Rattle.fault.specs.Faults.{arrival_number, flag_number, frame_told, header_told, line_told, record_number, write_number};
+ghost use Rattle.fault.specs.Faults.{
+  arrival_number,
+  creation_told,
+  decision_number,
+  event_number,
+  flag_number,
+  frame_told,
+  header_told,
+  line_told,
+  opening_number,
+  record_number,
+  run_number,
+  write_number,
+};
+ghost use Rattle.fault.specs.declared.CreationFault.TheVariants.{Table};
 ghost use Rattle.fault.specs.declared.HeaderFault.TheVariants.{Frame};
 ghost use Rattle.fault.specs.declared.LineFault.TheVariants.{Header};
+ghost use Rattle.fault.specs.declared.RunFault.TheVariants.{Arrival, Creation, Event, Opening};
 
 use std::fmt;
 use thiserror::Error;
@@ -168,6 +183,37 @@ impl LineFault {
     }
 }
 
+/// Why no cell was created.
+#[derive(Clone, Copy, PartialEq, Eq, Debug, Error)]
+pub enum CreationFault {
+    /// A fault of the table.
+    #[error(transparent)]
+    Table(LineFault),
+    /// A table of another number of flows than the reference has.
+    #[error("the flow count is not that of the reference")]
+    FlowCount,
+}
+
+impl From<LineFault> for CreationFault {
+    ghost from_gives = { λ e r. r ≡ Table e };
+
+    fn from(e: LineFault) -> CreationFault {
+        CreationFault::Table(e)
+    }
+}
+
+impl CreationFault {
+    /// Number, byte and layer.
+    pub fn refusal(self) -> Refusal
+        ensures { result ≡ creation_told self }
+    {
+        match self {
+            CreationFault::Table(fault) => fault.refusal(),
+            CreationFault::FlowCount => HeaderFault::FlowCount.refusal(),
+        }
+    }
+}
+
 /// What is wrong with a record.
 #[derive(Clone, Copy, PartialEq, Eq, Debug, Error)]
 pub enum RecordFault {
@@ -237,6 +283,25 @@ impl ArrivalFault {
     }
 }
 
+/// Why no control phase was opened.
+#[derive(Clone, Copy, PartialEq, Eq, Debug, Error)]
+pub enum OpeningFault {
+    /// As many slots as a cell decides are decided.
+    #[error("the cell has decided 1,000,000,000 slots")]
+    AllDecided,
+}
+
+impl OpeningFault {
+    /// The number of the refusal, for whoever is told of it: in the code the enum stands for it.
+    pub fn number(self) -> u8
+        ensures { result ≡ opening_number self }
+    {
+        match self {
+            OpeningFault::AllDecided => 8,
+        }
+    }
+}
+
 /// Why a flow did not flag.
 #[derive(Clone, Copy, PartialEq, Eq, Debug, Error)]
 pub enum FlagFault {
@@ -256,6 +321,110 @@ impl FlagFault {
         match self {
             FlagFault::NoSuchFlow => 9,
             FlagFault::FlaggedAlready => 10,
+        }
+    }
+}
+
+/// Why no slot was decided.
+#[derive(Clone, Copy, PartialEq, Eq, Debug, Error)]
+pub enum DecisionFault {
+    /// A report set for another slot, or for another number of flows, than the cell's.
+    #[error("the report set is not for this slot of this cell")]
+    NotForThisSlot,
+}
+
+impl DecisionFault {
+    /// The number of the refusal, for whoever is told of it: in the code the enum stands for it.
+    pub fn number(self) -> u8
+        ensures { result ≡ decision_number self }
+    {
+        match self {
+            DecisionFault::NotForThisSlot => 11,
+        }
+    }
+}
+
+/// What is wrong with an event of a run's input.
+#[derive(Clone, Copy, PartialEq, Eq, Debug, Error)]
+pub enum EventFault {
+    /// An event that begins with no known byte.
+    #[error("the event is neither 41 (an arrival) nor 53 (a control phase), in hexadecimal")]
+    Unknown,
+    /// An input that ends within an event.
+    #[error("the input ends within an event")]
+    CutShort,
+}
+
+impl EventFault {
+    /// The number of the refusal, for whoever is told of it: in the code the enum stands for it.
+    pub fn number(self) -> u8
+        ensures { result ≡ event_number self }
+    {
+        match self {
+            EventFault::Unknown | EventFault::CutShort => 16,
+        }
+    }
+}
+
+/// Why a run stopped before the end of its input.
+#[derive(Clone, Copy, PartialEq, Eq, Debug, Error)]
+pub enum RunFault {
+    /// No cell was created.
+    #[error(transparent)]
+    Creation(CreationFault),
+    /// Packets did not arrive.
+    #[error(transparent)]
+    Arrival(ArrivalFault),
+    /// A control phase was not opened.
+    #[error(transparent)]
+    Opening(OpeningFault),
+    /// An event is none, or is cut short.
+    #[error(transparent)]
+    Event(EventFault),
+}
+
+impl From<CreationFault> for RunFault {
+    ghost from_gives = { λ e r. r ≡ Creation e };
+
+    fn from(e: CreationFault) -> RunFault {
+        RunFault::Creation(e)
+    }
+}
+
+impl From<ArrivalFault> for RunFault {
+    ghost from_gives = { λ e r. r ≡ Arrival e };
+
+    fn from(e: ArrivalFault) -> RunFault {
+        RunFault::Arrival(e)
+    }
+}
+
+impl From<OpeningFault> for RunFault {
+    ghost from_gives = { λ e r. r ≡ Opening e };
+
+    fn from(e: OpeningFault) -> RunFault {
+        RunFault::Opening(e)
+    }
+}
+
+impl From<EventFault> for RunFault {
+    ghost from_gives = { λ e r. r ≡ Event e };
+
+    fn from(e: EventFault) -> RunFault {
+        RunFault::Event(e)
+    }
+}
+
+impl RunFault {
+    /// The number of the refusal, for whoever is told of it: in the code the enum stands for it.
+    pub fn number(self) -> u8
+        ensures { result ≡ run_number self }
+    {
+        match self {
+            RunFault::Creation(fault) => fault.refusal().number,
+            RunFault::Arrival(fault) => fault.number(),
+            RunFault::Opening(fault) => fault.number(),
+            RunFault::Event(fault) => fault.number(),
         }
     }
 }
