@@ -3,11 +3,12 @@ use Rattle.std.specs.Prelude.{◌≡◌, ℕ, ◌+◌, ◌*◌, cond, not, ◌||
 use Rattle.std.specs.Option.{option_map}
 use Rattle.octets.specs.Conditions.{first_of, or_else}
 use Rattle.octets.specs.BigEndian.{byte_at, told_length}
-use Rattle.fault.specs.Faults.{refused, line_told}
+use Rattle.fault.specs.Faults.{refused, header_told, line_told}
 use Rattle.octets.specs.Ranges.{one_to_sixteen}
 use Rattle.table.specs.Lines.{kind_numbered, lookahead_fits, delay_weight_fits}
 use Rattle.table.specs.Layout.{table_bytes}
 use Rattle.fault.specs.declared.Layer.TheVariants.{Frame, Header, Line}
+use Rattle.fault.specs.declared.HeaderFault.{HeaderFault}
 use Rattle.fault.specs.declared.LineFault.{LineFault}
 use Rattle.fault.specs.declared.Refusal.{Refusal}
 use Rattle.table.specs.declared.line.Kind.{Kind}
@@ -52,3 +53,8 @@ table_refusal b = or_else (header_refusal b) (lines_refusal b (kind_numbered (by
 abbrev pub TableRead : List ℕ → Result Table LineFault → Type 0
 TableRead b (Ok t) = (table_refusal b ≡ None) × (table_bytes t ≡ b)
 TableRead b (Err e) = table_refusal b ≡ Some (line_told e)
+
+-- Reading the bytes b up to their header: the flow count that they tell, or the refusal.
+abbrev pub FlowCountTold : List ℕ → Result ℕ HeaderFault → Type 0
+FlowCountTold b (Ok n) = (header_refusal b ≡ None) × (byte_at b 5 ≡ n)
+FlowCountTold b (Err e) = header_refusal b ≡ Some (header_told e)

@@ -4,14 +4,14 @@ ghost use Rattle.octets.specs.BigEndian.{Bytes};
 ghost use Rattle.table.specs.Lines.{no_line, line_bytes};
 ghost use Rattle.table.specs.Layout.{table_bytes};
 ghost use Rattle.table.specs.Layers.{LinesChecked};
-ghost use Rattle.table.specs.Refusals.{TableRead};
+ghost use Rattle.table.specs.Refusals.{FlowCountTold, TableRead};
 
 use crate::Table;
 use crate::header::Header;
 use crate::layout::HEADER_BYTES;
 use crate::line::{Kind, Line};
 use crate::sixteen::sixteen_of;
-use fault::LineFault;
+use fault::{HeaderFault, LineFault};
 
 /// Checks the lines of all flows.
 fn check_lines(kind: Kind, lines: &[Line]) -> Result<(), LineFault>
@@ -51,6 +51,13 @@ impl Table {
         ensures undoes_writing { (t : Table) → table_bytes t ≡ bytes.now → result ≡ Ok t }
     {
         checked(bytes)
+    }
+
+    /// The flow count that the bytes of a table tell, if they are right up to their header. Their lines are not looked at.
+    pub fn told_flow_count(bytes: &[u8]) -> Result<u8, HeaderFault>
+        ensures { FlowCountTold bytes.now result }
+    {
+        Ok(Header::read(bytes)?.flow_count)
     }
 
     /// How many bytes of an input decide what is read of it. A longer input is longer than any length can tell.
