@@ -8,7 +8,7 @@ use Rattle.table.specs.declared.line.Line.{Line}
 use Rattle.table.specs.Lines.{no_line}
 use Rattle.cell_rules.specs.declared.row.Row.{Row}
 use Rattle.cell_rules.specs.Rules.{State, Outcome, Reports, at, fresh, waiting, able, names, free_to, forfeited_by, booked_row, with_arrived, slot_of, flags_clean, created}
-use Rattle.cell_rules.proofs.Settling.{idle_exactly}
+use Rattle.cell_rules.proofs.Settling.{idle_exactly, slot_right}
 use Rattle.cell_rules.proofs.Booking.{booked_at}
 use Rattle.fairness.specs.Past.{Which, Call, Decision, after, deciding, packets_accepted}
 use Rattle.fairness.specs.Past.Which.{cell, twin}
@@ -36,6 +36,15 @@ module _ (rows : List Row) (clean : ℕ → Bool) (f : ℕ) where
     | inl l ↦ and_right (ltb 0 (waiting (at rows f))) (clean f) (n l)
     | inr l ↦ and_left (ltb 0 (waiting (at rows f))) (clean f) (le-ltb 0 (waiting (at rows f)) l)
   ]
+
+-- every decision, from whatever the cell held before it, is idle exactly when no waiting flow is clean
+pub idle_when : (M : Meaning) (s : State M) (set : Reports) → IdleExactlyWhenNobodyCanSend M (deciding M cell s set)
+idle_when M s set =
+    let clean : ℕ → Bool = flags_clean set in
+    let idle
+    = idle_exactly s.rows clean (M.marks s.held) (slot_of s.rows clean s.ring (M.marks s.held))
+    (slot_right s.rows clean s.ring (M.marks s.held)) in
+    (λ e f. dirty s.rows clean f (idle.0 e f), λ n. idle.1 (λ f. unable s.rows clean f (n f)))
 
 module _ (M : Meaning) (L : Lawful M) (h : M.Held) (sound : M.Sound h)
     (lines : List Line) (as_many : length lines ≡ M.flows h) (calls : List Call) where
@@ -77,14 +86,6 @@ module _ (M : Meaning) (L : Lawful M) (h : M.Held) (sound : M.Sound h)
   each Q gives =
       All-from_recursion Q (decisions_of M h lines calls cell)
       (each_decision M cell (Whole M h lines) (whole_always M L h lines cell) Q gives calls begun begun_whole)
-
-  idle_when : (s : State M) (set : Reports) → Whole M h lines s → IdleExactlyWhenNobodyCanSend M (deciding M cell s set)
-  idle_when s set i =
-      let clean : ℕ → Bool = flags_clean set in
-      let idle
-      = idle_exactly s.rows clean (M.marks s.held) (slot_of s.rows clean s.ring (M.marks s.held))
-      (decided_right M L h lines s i cell set) in
-      (λ e f. dirty s.rows clean f (idle.0 e f), λ n. idle.1 (λ f. unable s.rows clean f (n f)))
 
   sender_is_right : (s : State M) (set : Reports) → Whole M h lines s → SenderWaitsAndIsClean M (deciding M cell s set)
   sender_is_right s set i f e =
@@ -181,7 +182,7 @@ module _ (M : Meaning) (L : Lawful M) (h : M.Held) (sound : M.Sound h)
   fair =
       record {
         decided_by_the_rules = each (ByTheRules M) (λ s set i. record { came_to = refl; after = refl });
-        idle_exactly_when_nobody_can_send = each (IdleExactlyWhenNobodyCanSend M) idle_when;
+        idle_exactly_when_nobody_can_send = each (IdleExactlyWhenNobodyCanSend M) (λ s set i. idle_when M s set);
         sender_waits_and_is_clean = each (SenderWaitsAndIsClean M) sender_is_right;
         lags_or_forfeits_only_if_it_cannot_send = each (LagsOrForfeitsOnlyIfItCannotSend M) charge_is_right;
         forfeits_only_if_nobody_sends_on_account =

@@ -8,3 +8,4 @@ pub mod Senders
 pub mod Forfeits
 pub mod Arrivals
 pub mod Fair
+pub mod Continued

@@ -1,2 +1,3 @@
 pub mod Past
 pub mod Fairness
+pub mod PastOf
