@@ -9,3 +9,8 @@ pub mod LedgerArrivals
 pub mod LedgerSteps
 pub mod LedgerBooking
 pub mod Settled
+pub mod Flags
+pub mod Decisions
+pub mod Steps
+pub mod SameCell
+pub mod Creations

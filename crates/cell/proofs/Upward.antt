@@ -1,5 +1,5 @@
 -- A search of the flows from one of them upward.
-use Rattle.std.proofs.Common.{◌≡◌, ℕ, suc, ◌+◌, ◌-◌, ◌<◌, ◌≤◌, Bool, true, false, ◌∷◌, Some, None, arith}
+use Rattle.std.proofs.Common.{◌≡◌, ℕ, suc, ◌+◌, ◌-◌, ◌<◌, Bool, true, false, ◌∷◌, Some, arith}
 use Rattle.std.specs.List.{find, range_with_len}
 
 -- the flows from i to n are flow i and those above it
@@ -12,6 +12,3 @@ module _ (test : ℕ → Bool) (i n : ℕ) where
 
   pub not_here : i < n → test i ≡ false → find test (range_with_len i (n - i)) ≡ find test (range_with_len (i + 1) (n - (i + 1)))
   not_here h t = rw (flows_from i n h, t)
-
-  pub none_left : n ≤ i → find test (range_with_len i (n - i)) ≡ None
-  none_left h = let e : n - i ≡ 0 = omega arith in rw e

@@ -20,22 +20,22 @@ ledger_rows l = take l.count l.rows
 abbrev pub row_of : List Row → ℕ → Option Row
 row_of rows f = cond (nat_lt f (length rows)) (Some (at rows f)) None
 
--- n packets arrive for flow f: whether it enters, or the number of the refusal, which alters nothing
-abbrev pub Arrived : Ledger → ℕ → ℕ → Ledger → Result Bool ArrivalFault → Type 0
-Arrived l f n m (Ok entered) =
+-- n packets arrive for flow f in a ledger: whether it enters, or the number of the refusal, which alters nothing
+abbrev pub LedgerArrived : Ledger → ℕ → ℕ → Ledger → Result Bool ArrivalFault → Type 0
+LedgerArrived l f n m (Ok entered) =
     (arrival_refusal (ledger_rows l) f n ≡ None)
     × (ledger_rows m ≡ more_arrived (ledger_rows l) f n)
     × (m.slots ≡ l.slots)
     × (entered ≡ enters (at (ledger_rows l) f) n)
-Arrived l f n m (Err e) =
+LedgerArrived l f n m (Err e) =
     (arrival_refusal (ledger_rows l) f n ≡ Some (arrival_number e)) × (m ≡ l)
 
 -- what a slot comes to
 abbrev pub outcome_of : Option ℕ → Taking → Charge → Outcome
 outcome_of m t c = record { marked = m; taking = t; charge = c }
 
--- Booking goes in two steps. First the marked flow has its turn, as in a slot in which nobody sends; the row is the same
--- for every number of a flow, as for 0.
+-- Booking goes in two steps. First the marked flow has its turn, as in a slot in which nobody sends; the row is the
+-- same for every number of a flow, as for 0.
 abbrev pub turned_row : Charge → Row → Row
 turned_row c r = booked_row (outcome_of (Some 0) Idle c) 0 r
 
@@ -50,7 +50,7 @@ ChargeFits LeadDown r = 0 < r.lead
 ChargeFits LagUp r = r.lag < r.lag_limit
 ChargeFits Forfeited r = Unit {0}
 
--- and room for the counts
+-- that, and room for the counts of a marked flow
 pub record TurnFits (c : Charge) (r : Row) : Type 0 where
   pub lead_within_limit : r.lead ≤ r.lead_limit
   pub marked : r.marked < most
@@ -65,7 +65,7 @@ TakingFits (LagRepaid f) r = 0 < r.lag
 TakingFits (LeadCharged f) r = r.lead < r.lead_limit
 TakingFits (Free f) r = Unit {0}
 
--- and room for the counts
+-- that, and room for the counts of a sender
 pub record SendFits (t : Taking) (r : Row) : Type 0 where
   pub sent : r.sent < most
   pub free : r.free < most

@@ -2,5 +2,8 @@ pub mod FlowsView
 pub mod Leaders
 pub mod Ranks
 pub mod LedgerView
-pub mod ReportsView
+pub mod ReportSetView
 pub mod RingView
+pub mod StateView
+pub mod Creation
+pub mod CellView

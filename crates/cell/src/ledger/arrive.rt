@@ -1,13 +1,13 @@
 ghost use Rattle.std.specs.Prelude.{◌≡◌, ◌+◌, ◌<◌, ◌≤◌, length};
 ghost use Rattle.cell_rules.specs.Rules.{at, enters, more_arrived, most};
-ghost use Rattle.cell.specs.LedgerView.{ledger_rows, Arrived};
+ghost use Rattle.cell.specs.LedgerView.{ledger_rows, LedgerArrived};
 
 use crate::ledger::Ledger;
 use cell_rules::row::Row;
 use fault::ArrivalFault;
 
 /// The most packets that arrive for one flow.
-const MOST: u32 = 1_000_000_000;
+const MOST_PACKETS: u32 = 1_000_000_000;
 
 /// Whether the flow's due rises from 0 when so many packets arrive.
 fn enters(row: &Row, packets: u32) -> bool
@@ -29,10 +29,10 @@ impl Ledger {
 
     /// Takes packets that arrive for a flow, and tells whether its due rises from 0. A refusal alters nothing.
     pub(crate) fn arrive(&mut self, flow: u8, packets: u32) -> Result<bool, ArrivalFault>
-        ensures { Arrived self.old flow packets self.new result }
+        ensures { LedgerArrived self.old flow packets self.new result }
     {
         let row = self.row(flow).ok_or(ArrivalFault::NoSuchFlow)?;
-        if packets > MOST - row.arrived {
+        if packets > MOST_PACKETS - row.arrived {
             return Err(ArrivalFault::TooMany);
         }
         self.count_arrived(flow, packets);

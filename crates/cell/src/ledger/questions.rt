@@ -1,4 +1,5 @@
-ghost use Rattle.std.specs.Prelude.{◌≡◌, ◌≤◌, length};
+ghost use Rattle.std.specs.Prelude.{◌≡◌, ◌≤◌, length, nat_lt};
+ghost use Rattle.cell_rules.specs.Rules.{at, due};
 ghost use Rattle.cell_rules.specs.Facts.{KeptRows};
 ghost use Rattle.cell.specs.FlowsView.{rows_of};
 ghost use Rattle.cell.specs.LedgerView.{ledger_rows, row_of};
@@ -24,6 +25,13 @@ impl Ledger {
         ensures { result ≡ row_of (ledger_rows self.now) flow }
     {
         self.rows().get(usize::from(flow)).copied()
+    }
+
+    /// Whether the flow is still to have turns for what arrived.
+    pub(crate) fn is_due(&self, flow: u8) -> bool
+        ensures { result ≡ nat_lt 0 (due (at (ledger_rows self.now) flow)) }
+    {
+        self.row(flow).is_some_and(|row| row.due() > 0)
     }
 
     /// The flows before a slot in which these are clean.

@@ -2,11 +2,11 @@
 use Rattle.std.specs.Prelude.{◌≡◌, ◌≢◌, ℕ, ◌<◌, Bool, true, false, Some, None, Ok, Err, Result}
 use Rattle.fault.specs.Faults.{flag_number}
 use Rattle.fault.specs.declared.FlagFault.{FlagFault}
-use Rattle.cell_rules.specs.Rules.{Reports as ReportSet, flag_refusal, flags_clean, has, with_flag}
-use Rattle.cell.specs.declared.reports.Reports.{Reports}
+use Rattle.cell_rules.specs.Rules.{Reports, flag_refusal, flags_clean, has, with_flag}
+use Rattle.cell.specs.declared.report_set.ReportSet.{ReportSet}
 
 -- its slot, its number of flows, and the bits of both sets
-abbrev pub reports_held : Reports → ReportSet
+abbrev pub reports_held : ReportSet → Reports
 reports_held r =
     record {
       slot = r.slot;
@@ -16,12 +16,12 @@ reports_held r =
     }
 
 -- flow f asks to flag, clean or dirty, in the set s, which is then the set t
-abbrev pub Flagged : ReportSet → ℕ → Bool → ReportSet → Result Unit FlagFault → Type 0
+abbrev pub Flagged : Reports → ℕ → Bool → Reports → Result Unit FlagFault → Type 0
 Flagged s f clean t (Ok _) = (flag_refusal s f ≡ None) × (t ≡ with_flag s f clean)
 Flagged s f clean t (Err e) = (flag_refusal s f ≡ Some (flag_number e)) × (t ≡ s)
 
 -- t is s with the flag of flow f, clean or dirty, and nothing else
-pub record OneMore (s : ReportSet) (f : ℕ) (clean : Bool) (t : ReportSet) : Type 0 where
+pub record OneMore (s : Reports) (f : ℕ) (clean : Bool) (t : Reports) : Type 0 where
   pub of_the_cell : f < s.flow_count
   pub first : has s.flagged f ≡ false
   pub now : has t.flagged f ≡ true

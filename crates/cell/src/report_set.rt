@@ -9,7 +9,7 @@ use fault::FlagFault;
 /// A report set: who flagged for a slot, and who of them clean. A flow without a flag counts as dirty.
 // Neither Copy nor Clone, so that a set that was given away for a decision cannot be used again.
 #[derive(PartialEq, Eq, Debug, Drop)]
-pub struct Reports {
+pub struct ReportSet {
     slot: u32,
     flow_count: u8,
     flagged: FlowSet,
@@ -21,19 +21,19 @@ pub struct Reports {
     ghost dirty_without: { (f : ℕ) → has flagged.bits f ≡ false → has clean.bits f ≡ false },
 }
 
-impl Reports {
+impl ReportSet {
     ghost use Rattle.std.specs.Prelude.{IfOk};
     ghost use Rattle.cell_rules.specs.Rules.{flags_clean, opened};
-    ghost use Rattle.cell.specs.ReportsView.{Flagged, OneMore, reports_held};
+    ghost use Rattle.cell.specs.ReportSetView.{Flagged, OneMore, reports_held};
 
     /// The set for a slot of a cell with so many flows, before any of them flags.
-    pub(crate) fn open(slot: u32, flow_count: u8) -> Reports
+    pub(crate) fn open(slot: u32, flow_count: u8) -> ReportSet
         requires early { slot < most }
         requires some { 1 ≤ flow_count }
         requires few { flow_count ≤ 16 }
         ensures { reports_held result ≡ opened slot flow_count }
     {
-        Reports {
+        ReportSet {
             slot,
             flow_count,
             flagged: FlowSet::default(),
@@ -70,14 +70,15 @@ impl Reports {
     }
 
     /// The flows that are clean.
+    #[tactic(auto, using(crate::proofs::Flags::clean_bits_are_the_flags))]
     pub(crate) fn clean(&self) -> FlowSet
-        ensures { result.bits ≡ (reports_held self.now).clean }
+        ensures { has result.bits ≡ flags_clean (reports_held self.now) }
     {
         self.clean
     }
 
-    /// Flags a flow, clean or dirty. A number that is no flow's, and a second flag of one flow, are refused, and the set
-    /// is then as it was.
+    /// Flags a flow, clean or dirty. A number that is no flow's, and a second flag of one flow, are refused, and the
+    /// set is then as it was.
     #[tactic(auto, using(crate::proofs::FlowSets::has_with_same, crate::proofs::FlowSets::has_with_other))]
     pub fn flag(&mut self, flow: u8, clean: bool) -> Result<(), FlagFault>
         ensures exact { Flagged (reports_held self.old) flow clean (reports_held self.new) result }
