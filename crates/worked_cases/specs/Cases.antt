@@ -7,6 +7,7 @@ use Rattle.record.specs.declared.taking.Taking.TheVariants.{Idle, Own, LagRepaid
 use Rattle.round_robin_rule.specs.Rule.{round_robin, start}
 use Rattle.table.specs.declared.line.Line.{Line}
 use Rattle.table_reference.specs.Examples.{WorkedMarks}
+use Rattle.runner.specs.Examples.{WorkedRuns}
 use Rattle.cell_rules.specs.Rules.{Outcome, Reports, Ring, chargeable, created, opening_refusal, ring_finds}
 use Rattle.cell_rules.specs.declared.row.Row.{Row}
 use Rattle.fairness.specs.Past.{Call, answers, decisions, refusal_in}
@@ -95,8 +96,10 @@ set_of flagged clean = record { slot = 0; flow_count = 2; flagged = flagged; cle
 pub record WorkedCases : Type 0 where
   -- the marks of both references
   pub marks : WorkedMarks
-  -- two flows with limits of 2: lead charged, own turns, lag repaid in a designated slot, a forfeit, and at the end what was
-  -- forfeited is sent free
+  -- what runs write, byte by byte: the seven slots below among them
+  pub runs : WorkedRuns
+  -- two flows with limits of 2: lead charged, own turns, lag repaid in a designated slot, a forfeit, and at the end
+  -- what was forfeited is sent free
   pub two_flows :
       slots (flow 2 2 ∷ flow 2 2 ∷ []) seven_slots
       ≡ slot (Some 0) (LeadCharged 1) LagUp
@@ -118,8 +121,8 @@ pub record WorkedCases : Type 0 where
       ∷ slot (Some 1) (Own 1) Nothing
       ∷ slot None Idle Nothing
       ∷ []
-  -- three flows with limits of 4: flow 2 is charged lead in the turns of the others, loses lead where nobody can send, and gives
-  -- it back, in designated slots, to one lagging flow and then to the next around
+  -- three flows with limits of 4: flow 2 is charged lead in the turns of the others, loses lead where nobody can send,
+  -- and gives it back, in designated slots, to one lagging flow and then to the next around
   pub ring_goes_around :
       slots (flow 4 4 ∷ flow 4 4 ∷ flow 4 4 ∷ []) nine_slots
       ≡ slot (Some 0) (LeadCharged 2) LagUp
@@ -172,8 +175,8 @@ pub record WorkedCases : Type 0 where
   -- of two lagging flows, the next one around is found
   pub next_lagging_flow_is_found :
       ring_visit (row 0 4 ∷ row 0 0 ∷ row 0 8 ∷ []) ≡ (Some 2, record { pointer = 2; remainder = 2 })
-  -- leads of 3, 0, 2 and 2 under limits of 8: the least lead above 0 is charged, the lower number on a tie; a lead of 4 under
-  -- 8 before one of 3 under 4; and one in sync only if no leading flow can be
+  -- leads of 3, 0, 2 and 2 under limits of 8: the least lead above 0 is charged, the lower number on a tie; a lead of 4
+  -- under 8 before one of 3 under 4; and one in sync only if no leading flow can be
   pub least_lead_is_charged : chargeable (row 3 0 ∷ row 0 0 ∷ row 2 0 ∷ row 2 0 ∷ []) all_clean ≡ Some 2
   pub smallest_part_is_charged : chargeable (record (row 3 0) { lead_limit = 4 } ∷ row 4 0 ∷ []) all_clean ≡ Some 1
   pub in_sync_is_charged_last : chargeable (row 8 0 ∷ row 0 1 ∷ row 0 0 ∷ row 0 0 ∷ []) all_clean ≡ Some 2

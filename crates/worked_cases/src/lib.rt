@@ -1,5 +1,5 @@
-//! The worked cases, all together: marks of both references, and slots of cells, computed from the rules. And the claim at
-//! the references that tables ask for.
+//! The worked cases, all together: marks of both references, and slots of cells, computed from the rules. And the claim
+//! at the references that tables ask for.
 
 #![tactic(auto)]
 
@@ -10,6 +10,9 @@ ghost use Rattle.worked_cases.specs.Cases.{WorkedCases};
 use fairness::fair_in_every_past;
 use table::Table;
 use table_reference::TableReference;
+
+#[cfg(test)]
+mod tests;
 
 /// The rules give what was worked out by hand.
 pub fn worked_cases()

@@ -1,0 +1,59 @@
+-- What the events of a run do, and what they have still to write.
+use Rattle.std.specs.Prelude.{◌≡◌, ℕ, List, [], ◌++◌, Some, None, Ok, Err, Option, Result}
+use Rattle.cell.specs.CellView.{cell_held}
+use Rattle.cell_rules.specs.Rules.{State}
+use Rattle.fault.specs.Faults.{creation_told, opening_number, run_number}
+use Rattle.fault.specs.declared.CreationFault.{CreationFault}
+use Rattle.fault.specs.declared.OpeningFault.{OpeningFault}
+use Rattle.fault.specs.declared.RunFault.{RunFault}
+use Rattle.record.specs.Layout.{record_bytes}
+use Rattle.record.specs.declared.Record.{Record}
+use Rattle.table.specs.Refusals.{table_refusal}
+use Rattle.table_reference.specs.View.{own}
+use Rattle.runner.specs.Output.{Done, arrival_done, cell_of, events, phase_done, refusal_bytes, stopped}
+use Rattle.runner.specs.Parsing.{begun_bytes}
+use Rattle.runner.specs.declared.begun.Begun.TheVariants.{Nothing}
+use Rattle.runner.specs.declared.event.Event.{Event}
+use Rattle.runner.specs.declared.event.Event.TheVariants.{Arrival, Phase}
+use Rattle.runner.specs.declared.events.Events.{Events}
+
+abbrev pub held : Events → State own
+held e = cell_held e.cell
+
+-- what is still written, if this is the rest of the input
+abbrev pub events_to_come : Events → List ℕ → List ℕ
+events_to_come e rest = events own (Some (held e)) (begun_bytes e.begun ++ rest)
+
+-- the events behind a table's bytes begin, or the table is refused
+abbrev pub Begins : List ℕ → Result Events CreationFault → Type 0
+Begins b (Ok e) = (table_refusal b ≡ None) × (held e ≡ cell_of b) × (e.begun ≡ Nothing)
+Begins b (Err e) = table_refusal b ≡ Some (creation_told e)
+
+-- the bytes of a record, if there is one
+abbrev pub bytes_of : Option Record → List ℕ
+bytes_of None = []
+bytes_of (Some r) = record_bytes r
+
+-- what is done by an event
+abbrev pub done_by : State own → Event → Done own
+done_by s (Arrival f n) = arrival_done own s f n
+done_by s (Phase clean) = phase_done own s clean
+
+-- writing these bytes, and going on with this cell
+abbrev pub going_on : List ℕ → State own → Done own
+going_on bytes s = record { written = bytes; after = Some s }
+
+abbrev pub PhaseTaken : Events → ℕ → Events → Result Record OpeningFault → Type 0
+PhaseTaken old clean new (Ok r) =
+    (phase_done own (held old) clean ≡ going_on (record_bytes r) (held new)) × (new.begun ≡ old.begun)
+PhaseTaken old clean new (Err e) = phase_done own (held old) clean ≡ stopped own (opening_number e)
+
+abbrev pub Taken : Events → Event → Events → Result (Option Record) RunFault → Type 0
+Taken old event new (Ok r) = (done_by (held old) event ≡ going_on (bytes_of r) (held new)) × (new.begun ≡ old.begun)
+Taken old event new (Err e) = done_by (held old) event ≡ stopped own (run_number e)
+
+-- What is still written before an answer is what the answer tells, and then what is still written after it. Behind a
+-- refusal nothing is.
+abbrev pub Gives : (List ℕ → List ℕ) → (List ℕ → List ℕ) → Result (Option Record) RunFault → Type 0
+Gives before after (Ok r) = (rest : List ℕ) → before rest ≡ bytes_of r ++ after rest
+Gives before after (Err e) = (rest : List ℕ) → before rest ≡ refusal_bytes (run_number e)

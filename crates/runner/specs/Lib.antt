@@ -1,0 +1,8 @@
+pub mod Output
+pub mod Examples
+pub mod Parsing
+pub mod TableView
+pub mod FlagsView
+pub mod EventsView
+pub mod ToCome
+pub mod Feeding

@@ -1,0 +1,77 @@
+use crate::begun::Begun;
+use crate::event::Event;
+use crate::flags::flag_all;
+use cell::Cell;
+use fault::{CreationFault, OpeningFault, RunFault};
+use record::Record;
+use table::Table;
+use table_reference::TableReference;
+
+/// The events of a run: the cell that they are for, and what has come of the one that is not whole.
+#[derive(Drop)]
+pub(crate) struct Events {
+    cell: Cell<TableReference>,
+    begun: Begun,
+}
+
+impl Events {
+    ghost use Rattle.runner.specs.EventsView.{Begins, Gives, PhaseTaken, Taken, events_to_come};
+    ghost use Rattle.std.specs.Prelude.{◌≡◌, ◌∷◌};
+    ghost use Rattle.runner.specs.Parsing.{none_begun};
+
+    /// Before the first event: the cell of a table, over the reference of the table's kind.
+    pub(crate) fn of(table: &[u8]) -> Result<Events, CreationFault>
+        ensures { Begins table.now result }
+    {
+        let reference = TableReference::of(&Table::read(table)?);
+        match Cell::create(table, reference) {
+            Ok(cell) => Ok(Events {
+                cell,
+                begun: Begun::Nothing,
+            }),
+            Err(refused) => Err(refused.fault),
+        }
+    }
+
+    /// Has every flow flag, and decides the slot.
+    // All of these flags are of flows of the set, and first ones; and the set is for the slot that is decided.
+    fn decide(&mut self, clean: u16) -> Result<Record, OpeningFault>
+        ensures { PhaseTaken self.old clean self.new result }
+    {
+        let mut reports = self.cell.open_phase()?;
+        flag_all(&mut reports, clean);
+        Ok(self.cell.decide(reports).unwrap())
+    }
+
+    /// Has an event happen: the record of the slot, if it decides one.
+    fn take(&mut self, event: Event) -> Result<Option<Record>, RunFault>
+        ensures { Taken self.old event self.new result }
+    {
+        match event {
+            Event::Arrival { flow, packets } => {
+                self.cell.arrive(flow, packets.into())?;
+                Ok(None)
+            }
+            Event::Phase { clean } => Ok(Some(self.decide(clean)?)),
+        }
+    }
+
+    /// Takes a byte: the record of a slot, if the byte makes a control phase whole.
+    pub(crate) fn push(&mut self, byte: u8) -> Result<Option<Record>, RunFault>
+        ensures { Gives (λ rest. events_to_come self.old (byte ∷ rest)) (events_to_come self.new) result }
+    {
+        let (begun, event) = self.begun.with(byte)?;
+        self.begun = begun;
+        match event {
+            None => Ok(None),
+            Some(event) => self.take(event),
+        }
+    }
+
+    /// Whether the last event is whole.
+    pub(crate) fn between(&self) -> bool
+        ensures { result ≡ none_begun self.now.begun }
+    {
+        matches!(self.begun, Begun::Nothing)
+    }
+}

@@ -1,0 +1,46 @@
+ghost use Rattle.std.specs.Prelude.{◌≡◌, OnOk};
+ghost use Rattle.std.specs.Io.KnownBytes.{Appends};
+ghost use Rattle.fault.specs.Faults.{run_number};
+ghost use Rattle.runner.specs.Feeding.{Fed};
+ghost use Rattle.runner.specs.Output.{refusal_bytes};
+ghost use Rattle.runner.specs.ToCome.{answer_bytes};
+
+use crate::Run;
+use fault::RunFault;
+use record::Record;
+use std::io;
+use std::io::Write;
+
+/// The bytes of a refusal: version 1 and its number, behind their length.
+pub(crate) fn refusal_bytes(fault: RunFault) -> [u8; 4]
+    ensures { result ≡ refusal_bytes (run_number fault) }
+{
+    [0, 2, 1, fault.number()]
+}
+
+/// Writes what a byte gave: the record of a slot, if there is one, or the refusal.
+fn write_answer<W: Write>(
+    answer: Result<Option<Record>, RunFault>,
+    output: &mut W,
+) -> io::Result<()>
+    ensures { OnOk result (Appends (W.contents output.old) (W.contents output.new) (answer_bytes answer)) }
+{
+    match answer {
+        Ok(Some(record)) => output.write_all(&record.bytes()),
+        Ok(None) => Ok(()),
+        Err(fault) => output.write_all(&refusal_bytes(fault)),
+    }
+}
+
+impl Run {
+    /// Takes the next bytes of the input, and writes what they give. Once the output has failed, the run is of no more
+    /// use.
+    pub fn feed<W: Write>(&mut self, input: &[u8], output: &mut W) -> io::Result<()>
+        ensures { OnOk result (Fed self.old input.now self.new (W.contents output.old) (W.contents output.new)) }
+    {
+        for byte in input {
+            write_answer(self.push(*byte), output)?;
+        }
+        Ok(())
+    }
+}

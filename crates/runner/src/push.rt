@@ -1,0 +1,42 @@
+ghost use Rattle.std.specs.Prelude.{◌≡◌, ℕ, List, [], ◌∷◌, ◌++◌, IfErr};
+ghost use Rattle.runner.specs.EventsView.{Gives};
+ghost use Rattle.runner.specs.ToCome.{answer_bytes, to_come};
+
+use crate::Run;
+use crate::stage::Stage;
+use fault::RunFault;
+use record::Record;
+use std::mem;
+
+impl Run {
+    /// Takes a byte, as `push` does, but goes on after a refusal as if it were none.
+    fn advance(&mut self, byte: u8) -> Result<Option<Record>, RunFault>
+        ensures { Gives (λ rest. to_come self.old (byte ∷ rest)) (to_come self.new) result }
+    {
+        match &mut self.stage {
+            Stage::Table(table) => {
+                self.stage = mem::take(table).with(byte)?;
+                Ok(None)
+            }
+            Stage::LongTable(table) => {
+                table.pass()?;
+                Ok(None)
+            }
+            Stage::Events(events) => events.push(byte),
+            Stage::Over => Ok(None),
+        }
+    }
+
+    /// Takes the next byte of the input: the record of a slot, if that byte makes a control phase whole, or why the run
+    /// stops at it. A run that has stopped passes the byte over.
+    pub fn push(&mut self, byte: u8) -> Result<Option<Record>, RunFault>
+        ensures gives { (rest : List ℕ) → to_come self.old (byte ∷ rest) ≡ answer_bytes result ++ to_come self.new rest }
+        ensures stops { IfErr result (λ _. (rest : List ℕ) → to_come self.new rest ≡ []) }
+    {
+        let answer = self.advance(byte);
+        if answer.is_err() {
+            self.stage = Stage::Over;
+        }
+        answer
+    }
+}

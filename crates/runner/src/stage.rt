@@ -1,0 +1,59 @@
+use crate::events::Events;
+use crate::long_table::LongTable;
+use crate::partial_table::{MOST_BYTES, PartialTable};
+use arrayvec::ArrayVec;
+use fault::CreationFault;
+use octets::big_endian::BigEndian;
+
+/// The bytes of a table's length, which does not count them.
+const LENGTH_BYTES: usize = 2;
+
+/// How far a run has come.
+#[derive(Drop)]
+pub(crate) enum Stage {
+    /// The table has not come whole.
+    Table(PartialTable),
+    /// Nor has this one, which is longer than any flow count makes it.
+    LongTable(LongTable),
+    /// There is a cell, and events happen to it.
+    Events(Events),
+    /// It has stopped: what is still to come of the input is passed over.
+    Over,
+}
+
+ghost use Rattle.std.specs.Prelude.{◌≡◌, ◌+◌, ◌<◌, ◌≤◌, length};
+ghost use Rattle.octets.specs.BigEndian.{told_length};
+ghost use Rattle.runner.specs.ToCome.{StageBehind};
+
+/// The bytes of a whole table, as its first two tell; one that is not there counts as 0.
+fn whole_bytes(table: &[u8]) -> usize
+    ensures { result ≡ told_length table.now + 2 }
+{
+    let length = match *table {
+        [] => 0,
+        [high] => u16::from_bytes([high, 0]),
+        [high, low, ..] => u16::from_bytes([high, low]),
+    };
+    LENGTH_BYTES + usize::from(length)
+}
+
+impl Stage {
+    /// What a run comes to with these first bytes of its input, which are no more than its table has, and of a table
+    /// that is longer than any flow count makes it no more than its header.
+    pub(crate) fn behind(table: ArrayVec<u8, MOST_BYTES>) -> Result<Stage, CreationFault>
+        requires begun { length table.items ≤ told_length table.items + 2 }
+        requires short { 68 < told_length table.items → length table.items ≤ 6 }
+        ensures { StageBehind table.items result }
+    {
+        let whole = whole_bytes(&table);
+        if table.len() == whole {
+            return Ok(Stage::Events(Events::of(&table)?));
+        }
+        if whole > MOST_BYTES
+            && let Some(header) = table.first_chunk()
+        {
+            return Ok(Stage::LongTable(LongTable::after(*header)));
+        }
+        Ok(Stage::Table(PartialTable { bytes: table }))
+    }
+}
