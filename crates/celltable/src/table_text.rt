@@ -25,7 +25,7 @@ impl TableText {
             lag_limit,
             lead_limit,
         } = *line;
-        let tenths = tenths_of_percent(u32::from(weight), u32::from(total)).unwrap();
+        let tenths = tenths_of_percent(u64::from(weight), u64::from(total)).unwrap();
         let whole = tenths / 10;
         let rest = tenths % 10;
         writeln!(

@@ -1,0 +1,2 @@
+mod FlowsTold
+mod Steps

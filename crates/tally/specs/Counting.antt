@@ -1,0 +1,94 @@
+-- What is counted over a list of records.
+use Rattle.std.specs.Prelude.{ℕ, ◌+◌, Bool, false, cond, List, map, length, Some, None, Option, ◌==◌, min, max, count_by, is_none, nat_lt, slice_get}
+use Rattle.std.specs.List.{fold, range_with_len}
+use Rattle.record.specs.Pairs.{sender_of}
+use Rattle.record.specs.declared.Record.{Record}
+use Rattle.record.specs.declared.taking.Charge.{Charge}
+use Rattle.record.specs.declared.taking.Charge.TheVariants.{Nothing, LeadDown, LagUp, Forfeited}
+use Rattle.record.specs.declared.taking.Taking.{Taking}
+use Rattle.record.specs.declared.taking.Taking.TheVariants.{Idle, Own, LagRepaid, LeadCharged, Free}
+use Rattle.tally.specs.declared.FlowTally.{FlowTally}
+use Rattle.tally.specs.declared.Tally.{Tally}
+
+-- ## What a record says of a flow
+
+-- whether a flow is the one that is named, if one is
+abbrev pub names : Option ℕ → ℕ → Bool
+names None f = false
+names (Some g) f = g == f
+
+-- the flow that sends on no account
+abbrev pub free_sender : Taking → Option ℕ
+free_sender Idle = None
+free_sender (Own f) = None
+free_sender (LagRepaid f) = None
+free_sender (LeadCharged f) = None
+free_sender (Free f) = Some f
+
+-- the marked flow, if it forfeits
+abbrev pub forfeited_by : Charge → Option ℕ → Option ℕ
+forfeited_by Nothing marked = None
+forfeited_by LeadDown marked = None
+forfeited_by LagUp marked = None
+forfeited_by Forfeited marked = marked
+
+-- ## Counts
+
+-- 2 ^ 64 - 1, at which a count stays
+abbrev pub most_counted : ℕ
+most_counted = 18446744073709551615
+
+-- in how many of the records something holds
+abbrev pub counted : (Record → Bool) → List Record → ℕ
+counted holds records = min (count_by holds records) most_counted
+
+-- a count once one more record is added
+abbrev pub once_more : ℕ → Bool → ℕ
+once_more count holds = min (count + cond holds 1 0) most_counted
+
+-- the counts of a flow
+abbrev pub flow_tally : List Record → ℕ → FlowTally
+flow_tally records f =
+    record {
+      marked = counted (λ r. names r.marked f) records;
+      sent = counted (λ r. names (sender_of r.taking) f) records;
+      free = counted (λ r. names (free_sender r.taking) f) records;
+      forfeited = counted (λ r. names (forfeited_by r.charge r.marked) f) records;
+    }
+
+-- and once one more record is added
+abbrev pub flow_once_more : FlowTally → ℕ → Record → FlowTally
+flow_once_more t f r =
+    record {
+      marked = once_more t.marked (names r.marked f);
+      sent = once_more t.sent (names (sender_of r.taking) f);
+      free = once_more t.free (names (free_sender r.taking) f);
+      forfeited = once_more t.forfeited (names (forfeited_by r.charge r.marked) f);
+    }
+
+-- the most flows that a record is of
+abbrev pub most_flows : List Record → ℕ
+most_flows records = fold (λ n r. max n r.flow_count) 0 records
+
+-- all counts
+abbrev pub tally_of : List Record → Tally
+tally_of records =
+    record {
+      slots = min (length records) most_counted;
+      idle = counted (λ r. is_none (sender_of r.taking)) records;
+      unmarked = counted (λ r. is_none r.marked) records;
+      flow_count = most_flows records;
+      flows = map (flow_tally records) (range_with_len 0 16);
+    }
+
+-- nothing has been counted of a flow
+abbrev pub nothing_counted : FlowTally
+nothing_counted = record { marked = 0; sent = 0; free = 0; forfeited = 0 }
+
+-- the counts of flow f that a tally holds, if a record is of so many flows
+abbrev pub told_of_flow : Tally → ℕ → Option FlowTally
+told_of_flow t f = cond (nat_lt f t.flow_count) (slice_get t.flows f) None
+
+-- what is told of flow f, of these records
+abbrev pub flow_told : List Record → ℕ → Option FlowTally
+flow_told records f = cond (nat_lt f (most_flows records)) (Some (flow_tally records f)) None
