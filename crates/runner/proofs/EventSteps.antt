@@ -1,5 +1,5 @@
 -- Events, one after the other.
-use Rattle.std.proofs.Common.{◌≡◌, ◌≢◌, ℕ, List, [], ◌∷◌, ◌++◌, length, Some, None, Ok, Err, Option, Result, false, cond, ◌==◌, refl, sym, ap, ◌∙◌, append_assoc, arith}
+use Rattle.std.proofs.Common.{◌≡◌, ◌≢◌, ℕ, List, [], ◌∷◌, ◌++◌, length, Some, None, Ok, Err, Option, Result, false, cond, ◌==◌, refl, sym, ap, ◌∙◌, append_assoc, arith, ◌<◌, length, subst, true, true≢false}
 use Rattle.std.proofs.lemmas.Bool.Decides.{nat_tests}
 use Rattle.cell.specs.CellView.{said_by}
 use Rattle.cell_rules.specs.Rules.{Reports, State, decided, flags_clean, opening_refusal, outcome}
@@ -8,14 +8,15 @@ use Rattle.fault.specs.declared.EventFault.{EventFault}
 use Rattle.fault.specs.declared.EventFault.TheVariants.{CutShort, Unknown}
 use Rattle.fault.specs.declared.RunFault.{RunFault}
 use Rattle.fault.specs.declared.RunFault.TheVariants.{Event as OfEvent}
-use Rattle.octets.specs.BigEndian.{be_number}
+use Rattle.octets.specs.BigEndian.{be_number, byte_at}
 use Rattle.record.specs.Layout.{record_bytes}
 use Rattle.record.specs.declared.Record.{Record}
 use Rattle.table_reference.specs.View.{own}
 use Rattle.runner.specs.EventsView.{Gives, Taken, bytes_of, done_by, events_to_come, going_on, held}
 use Rattle.runner.specs.Output.{arrival_done, clean_by, event_done, events, outcome_bytes, phase_done, refusal_bytes, slot_done, stopped, or_stopped}
-use Rattle.runner.specs.Parsing.{BytesOf, begun_bytes}
-use Rattle.runner.specs.declared.begun.Begun.TheVariants.{Nothing}
+use Rattle.runner.specs.Parsing.{BytesOf, begun_bytes, none_begun}
+use Rattle.runner.specs.declared.begun.Begun.{Begun}
+use Rattle.runner.specs.declared.begun.Begun.TheVariants.{Nothing, Arrival as ArrivalBegun, ArrivalFor, Phase as PhaseBegun, PhaseWith}
 use Rattle.runner.specs.declared.event.Event.{Event}
 use Rattle.runner.specs.declared.event.Event.TheVariants.{Arrival, Phase}
 use Rattle.runner.specs.declared.events.Events.{Events}
@@ -43,30 +44,40 @@ event_in_front s (Phase clean) bs rest (high, low, h, mask) =
     ap (λ xs. events own (Some s) (xs ++ rest)) h
     ∙ ap (λ m. (phase_done own s m).written ++ events own (phase_done own s m).after rest) (sym mask)
 
--- an event that a byte makes whole
+-- an event that further bytes make whole
 pub taken_gives :
-    (old mid new : Events) (e : Event) (byte : ℕ) (r : Result (Option Record) RunFault)
-    → BytesOf e (begun_bytes old.begun ++ byte ∷ [])
+    (old mid new : Events) (e : Event) (more : List ℕ) (r : Result (Option Record) RunFault)
+    → BytesOf e (begun_bytes old.begun ++ more)
     → held mid ≡ held old → mid.begun ≡ Nothing
     → Taken mid e new r
-    → Gives (λ rest. events_to_come old (byte ∷ rest)) (events_to_come new) r
-taken_gives old mid new e byte r whole same begun taken = go r taken
+    → Gives (λ rest. events_to_come old (more ++ rest)) (events_to_come new) r
+taken_gives old mid new e more r whole same begun taken = go r taken
   where
     first :
         (rest : List ℕ)
-        → events_to_come old (byte ∷ rest) ≡ (done_by (held mid) e).written ++ events own (done_by (held mid) e).after rest
+        → events_to_come old (more ++ rest) ≡ (done_by (held mid) e).written ++ events own (done_by (held mid) e).after rest
     first rest =
-        ap (events own (Some (held old))) (sym (append_assoc (begun_bytes old.begun) (byte ∷ []) rest))
-        ∙ event_in_front (held old) e (begun_bytes old.begun ++ byte ∷ []) rest whole
+        ap (events own (Some (held old))) (sym (append_assoc (begun_bytes old.begun) more rest))
+        ∙ event_in_front (held old) e (begun_bytes old.begun ++ more) rest whole
         ∙ ap (λ s. (done_by s e).written ++ events own (done_by s e).after rest) (sym same)
 
-    go : (x : Result (Option Record) RunFault) → Taken mid e new x → Gives (λ rest. events_to_come old (byte ∷ rest)) (events_to_come new) x
+    go : (x : Result (Option Record) RunFault) → Taken mid e new x → Gives (λ rest. events_to_come old (more ++ rest)) (events_to_come new) x
     go (Ok x) h =
         λ rest.
         first rest
         ∙ ap (λ d. d.written ++ events own d.after rest) h.0
         ∙ ap (λ b. bytes_of x ++ events own (Some (held new)) (begun_bytes b ++ rest)) (sym (h.1 ∙ begun))
     go (Err x) h = λ rest. first rest ∙ ap (λ d. d.written ++ events own d.after rest) h
+
+-- a whole event, of which nothing has come before
+pub whole_gives :
+    (old new : Events) (e : Event) (bs : List ℕ) (r : Result (Option Record) RunFault)
+    → old.begun ≡ Nothing
+    → BytesOf e bs
+    → Taken old e new r
+    → Gives (λ rest. events_to_come old (bs ++ rest)) (events_to_come new) r
+whole_gives old new e bs r begun whole taken =
+    taken_gives old old new e bs r (subst (λ b. BytesOf e (begun_bytes b ++ bs)) (sym begun) whole) refl begun taken
 
 -- what begins like no event is refused, whatever follows
 pub no_event : (s : State own) (e : ℕ) (rest : List ℕ) → e ≢ 0x41 → e ≢ 0x53 → events own (Some s) (e ∷ rest) ≡ refusal_bytes 16
@@ -95,3 +106,22 @@ none_gives old byte e f begun no_arrival no_phase told rest =
     ap (λ b. events own (Some (held old)) (begun_bytes b ++ byte ∷ rest)) begun
     ∙ no_event (held old) byte rest no_arrival no_phase
     ∙ sym (ap refusal_bytes (ap run_number told ∙ number_of_none e))
+
+-- bytes that begin with no event
+pub none_in_front_gives :
+    (old : Events) (bs : List ℕ) (e : EventFault) (f : RunFault)
+    → 0 < length bs
+    → old.begun ≡ Nothing → byte_at bs 0 ≢ 0x41 → byte_at bs 0 ≢ 0x53
+    → f ≡ OfEvent e
+    → (rest : List ℕ) → events_to_come old (bs ++ rest) ≡ refusal_bytes (run_number f)
+none_in_front_gives old [] e f some begun no_arrival no_phase told rest = absurd (omega (arith, some))
+none_in_front_gives old (b ∷ bs) e f some begun no_arrival no_phase told rest =
+    none_gives old b e f begun no_arrival no_phase told (bs ++ rest)
+
+-- where no byte of an event has come, none is begun
+pub nothing_begun : (b : Begun) → none_begun b ≡ true → b ≡ Nothing
+nothing_begun Nothing h = refl
+nothing_begun ArrivalBegun h = absurd (true≢false (sym h))
+nothing_begun (ArrivalFor f) h = absurd (true≢false (sym h))
+nothing_begun PhaseBegun h = absurd (true≢false (sym h))
+nothing_begun (PhaseWith m) h = absurd (true≢false (sym h))

@@ -6,7 +6,7 @@ use Rattle.runner.specs.Feeding.{Fed}
 use Rattle.runner.specs.Output.{output_of}
 use Rattle.runner.specs.ToCome.{to_come}
 use Rattle.runner.specs.declared.Run.{Run}
-use Rattle.runner.proofs.Feeds.{appends_both}
+use Rattle.runner.proofs.Feeds.{appends_both, appends_nothing}
 
 -- a reader had all, and has what is left; a writer held old, and holds new: what the whole input gives was written, but
 -- for what is still to come
@@ -19,10 +19,6 @@ Going (Some all) (Some left) r old new =
 -- all is written
 abbrev pub AllWritten : Option (List ℕ) → Option (List ℕ) → Option (List ℕ) → Type 0
 AllWritten all old new = IfSome all (λ input. Appends old new (output_of input))
-
-appends_nothing : (old : Option (List ℕ)) → Appends old old []
-appends_nothing None = tt
-appends_nothing (Some xs) = sym (append-nil xs)
 
 kept_appends : (old mid new : Option (List ℕ)) (w : List ℕ) → Appends old mid w → Keeps mid new → Appends old new w
 kept_appends None mid new w h k = tt

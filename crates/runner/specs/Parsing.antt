@@ -1,7 +1,7 @@
 -- Events, byte by byte.
 use Rattle.std.specs.Prelude.{◌≡◌, ◌≢◌, ℕ, Bool, true, false, List, [], ◌∷◌, ◌++◌, Some, None, Ok, Err, Option, Result}
 use Rattle.fault.specs.declared.EventFault.{EventFault}
-use Rattle.octets.specs.BigEndian.{be_number}
+use Rattle.octets.specs.BigEndian.{be_number, byte_at}
 use Rattle.runner.specs.declared.begun.Begun.{Begun}
 use Rattle.runner.specs.declared.begun.Begun.TheVariants.{Nothing, Arrival as ArrivalBegun, ArrivalFor, Phase as PhaseBegun, PhaseWith}
 use Rattle.runner.specs.declared.event.Event.{Event}
@@ -38,3 +38,8 @@ CameTo bs begun (Some e) = BytesOf e bs × (begun ≡ Nothing)
 abbrev pub Parsed : Begun → ℕ → Result (Begun × Option Event) EventFault → Type 0
 Parsed begun byte (Ok x) = CameTo (begun_bytes begun ++ byte ∷ []) x.0 x.1
 Parsed begun byte (Err e) = (begun ≡ Nothing) × (byte ≢ 0x41) × (byte ≢ 0x53)
+
+-- three bytes; only the first of them can be none of an event
+abbrev pub EventRead : List ℕ → Result Event EventFault → Type 0
+EventRead bs (Ok e) = BytesOf e bs
+EventRead bs (Err e) = (byte_at bs 0 ≢ 0x41) × (byte_at bs 0 ≢ 0x53)

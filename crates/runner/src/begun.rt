@@ -1,14 +1,8 @@
 ghost use Rattle.runner.specs.Parsing.{Parsed};
 
-use crate::event::Event;
+use crate::event::{ARRIVAL, Event, PHASE};
 use fault::EventFault;
 use octets::big_endian::BigEndian;
-
-/// The first byte of an arrival.
-const ARRIVAL: u8 = 0x41;
-
-/// The first byte of a control phase.
-const PHASE: u8 = 0x53;
 
 /// What has come of an event that is not whole.
 #[derive(Clone, Copy)]

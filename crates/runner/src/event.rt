@@ -1,3 +1,14 @@
+ghost use Rattle.runner.specs.Parsing.{EventRead};
+
+use fault::EventFault;
+use octets::big_endian::BigEndian;
+
+/// The first byte of an arrival.
+pub(crate) const ARRIVAL: u8 = 0x41;
+
+/// The first byte of a control phase.
+pub(crate) const PHASE: u8 = 0x53;
+
 /// An event of a run's input, whole.
 #[derive(Clone, Copy)]
 pub(crate) enum Event {
@@ -13,4 +24,23 @@ pub(crate) enum Event {
         /// The flows that flag clean: a bit for each, that of flow 0 the lowest.
         clean: u16,
     },
+}
+
+impl Event {
+    /// The event that has these bytes.
+    pub(crate) fn read(bytes: [u8; 3]) -> Result<Event, EventFault>
+        ensures { EventRead bytes result }
+    {
+        let [first, a, b] = bytes;
+        match first {
+            ARRIVAL => Ok(Event::Arrival {
+                flow: a,
+                packets: b,
+            }),
+            PHASE => Ok(Event::Phase {
+                clean: u16::from_bytes([a, b]),
+            }),
+            _ => Err(EventFault::Unknown),
+        }
+    }
 }

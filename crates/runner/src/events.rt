@@ -16,7 +16,7 @@ pub(crate) struct Events {
 
 impl Events {
     ghost use Rattle.runner.specs.EventsView.{Begins, Gives, PhaseTaken, Taken, events_to_come};
-    ghost use Rattle.std.specs.Prelude.{◌≡◌, ◌∷◌};
+    ghost use Rattle.std.specs.Prelude.{◌≡◌, true, ◌∷◌, ◌++◌};
     ghost use Rattle.runner.specs.Parsing.{none_begun};
 
     /// Before the first event: the cell of a table, over the reference of the table's kind.
@@ -66,6 +66,15 @@ impl Events {
             None => Ok(None),
             Some(event) => self.take(event),
         }
+    }
+
+    /// Takes the bytes of a whole event, where the last one is whole: the record of a slot, if it is a control phase.
+    pub(crate) fn take_whole(&mut self, bytes: [u8; 3]) -> Result<Option<Record>, RunFault>
+        requires { none_begun self.old.begun ≡ true }
+        ensures { Gives (λ rest. events_to_come self.old (bytes ++ rest)) (events_to_come self.new) result }
+    {
+        let event = Event::read(bytes)?;
+        self.take(event)
     }
 
     /// Whether the last event is whole.

@@ -38,8 +38,11 @@ impl Run {
     pub fn feed<W: Write>(&mut self, input: &[u8], output: &mut W) -> io::Result<()>
         ensures { OnOk result (Fed self.old input.now self.new (W.contents output.old) (W.contents output.new)) }
     {
-        for byte in input {
-            write_answer(self.push(*byte), output)?;
+        let mut rest = input;
+        while !rest.is_empty() {
+            let (answer, behind) = self.push_front(rest);
+            write_answer(answer, output)?;
+            rest = behind;
         }
         Ok(())
     }

@@ -1,5 +1,6 @@
-ghost use Rattle.std.specs.Prelude.{◌≡◌, ℕ, List, [], ◌∷◌, ◌++◌, IfErr};
+ghost use Rattle.std.specs.Prelude.{◌≡◌, ◌<◌, ℕ, List, [], ◌∷◌, ◌++◌, IfErr, length};
 ghost use Rattle.runner.specs.EventsView.{Gives};
+ghost use Rattle.runner.specs.Feeding.{FrontTaken};
 ghost use Rattle.runner.specs.ToCome.{answer_bytes, to_come};
 
 use crate::Run;
@@ -9,8 +10,12 @@ use record::Record;
 use std::mem;
 
 impl Run {
-    /// Takes a byte, as `push` does, but goes on after a refusal as if it were none.
-    fn advance(&mut self, byte: u8) -> Result<Option<Record>, RunFault>
+    /// Takes a byte that is none of an event: of the table, or behind the end of the run.
+    // Apart from `advance`, and never inlined there: a function pays at entry for the size of its locals, and a stage is
+    // large, while nearly all bytes are those of events.
+    #[cold]
+    #[inline(never)]
+    fn advance_outside_events(&mut self, byte: u8) -> Result<Option<Record>, RunFault>
         ensures { Gives (λ rest. to_come self.old (byte ∷ rest)) (to_come self.new) result }
     {
         match &mut self.stage {
@@ -27,6 +32,16 @@ impl Run {
         }
     }
 
+    /// Takes a byte, as `push` does, but goes on after a refusal as if it were none.
+    fn advance(&mut self, byte: u8) -> Result<Option<Record>, RunFault>
+        ensures { Gives (λ rest. to_come self.old (byte ∷ rest)) (to_come self.new) result }
+    {
+        match &mut self.stage {
+            Stage::Events(events) => events.push(byte),
+            _ => self.advance_outside_events(byte),
+        }
+    }
+
     /// Takes the next byte of the input: the record of a slot, if that byte makes a control phase whole, or why the run
     /// stops at it. A run that has stopped passes the byte over.
     pub fn push(&mut self, byte: u8) -> Result<Option<Record>, RunFault>
@@ -38,5 +53,28 @@ impl Run {
             self.stage = Stage::Over;
         }
         answer
+    }
+
+    /// Takes a whole event, if one may stand in front of the bytes, and else a byte, as `push` does: what that gives, and
+    /// the bytes behind.
+    pub(crate) fn push_front<'a>(
+        &mut self,
+        bytes: &'a [u8],
+    ) -> (Result<Option<Record>, RunFault>, &'a [u8])
+        requires some { 0 < length bytes.now }
+        ensures taken { FrontTaken self.old bytes.now self.new result.0 result.1.now }
+        ensures fewer { length result.1.now < length bytes.now }
+    {
+        match (&mut self.stage, bytes) {
+            (Stage::Events(events), [first, a, b, behind @ ..]) if events.between() => {
+                let answer = events.take_whole([*first, *a, *b]);
+                if answer.is_err() {
+                    self.stage = Stage::Over;
+                }
+                (answer, behind)
+            }
+            (_, [byte, behind @ ..]) => (self.push(*byte), behind),
+            (_, []) => (Ok(None), bytes),
+        }
     }
 }

@@ -1,18 +1,10 @@
-use Rattle.std.proofs.Common.{◌∷◌, [], take, get_or, subst, sym}
-use Rattle.std.proofs.lemmas.List.{take_more}
-use Rattle.runner.specs.Feeding.{Fed}
 use Rattle.runner.specs.ToCome.{answer_bytes}
-use Rattle.runner.proofs.Feeds.{fed_more}
+use Rattle.runner.proofs.Feeds.{fed_on}
 use Rattle.runner.proofs.Run.feed.Goals as goal
 
-pub loop-byte-preserved : goal.loop-byte-preserved
-loop-byte-preserved g c =
+pub loop-rest-preserved : goal.loop-rest-preserved
+loop-rest-preserved g c =
     let contents = g.W.Write.contents in
-    let at = c.loop-byte.byte-index in
-    let byte = get_or c.args.input.now at 0 in
-    let before = c.args.self.now in
-    let out = contents c.args.output.now in
-    let fed =
-    fed_more before c.loop-byte.self c.push.new.self (take at c.args.input.now) (byte ∷ []) (answer_bytes c.push.result) out
-    (contents c.loop-byte.output) (contents c.write_answer.new.output) c.loop-byte.invariant c.in_ok-write_answer.ensures c.push.ensures.gives in
-    subst (λ bytes. Fed before bytes c.push.new.self out (contents c.write_answer.new.output)) (sym (take_more c.args.input.now at 0 c.loop-byte-test.true)) fed
+    fed_on c.args.self.now c.loop-rest.self c.push_front-answer.new.self c.args.input.now c.loop-rest.rest.now c.push_front-answer.result.1.now
+    (answer_bytes c.push_front-answer.result.0) (contents c.args.output.now) (contents c.loop-rest.output) (contents c.write_answer.new.output)
+    c.loop-rest.invariant c.push_front-answer.ensures.taken c.in_ok-write_answer.ensures

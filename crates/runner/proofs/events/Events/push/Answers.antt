@@ -1,4 +1,4 @@
-use Rattle.std.proofs.Common.{◌∷◌, refl, sym, subst}
+use Rattle.std.proofs.Common.{◌∷◌, [], refl, sym, subst}
 use Rattle.std.proofs.lemmas.Result.{err_from_is_err_and}
 use Rattle.runner.specs.EventsView.{Gives, events_to_come}
 use Rattle.runner.specs.Parsing.{CameTo}
@@ -16,4 +16,4 @@ returns-in_err-begun c =
 pub returns-in-Some : goal.returns-in-Some
 returns-in-Some c =
     let came = subst (CameTo _ c.in_ok-begun.begun) c.in-Some.is c.in_ok-begun.ensures in
-    taken_gives c.args.self.now (record c.args.self.now { begun = c.in_ok-begun.begun }) c.take.new.self c.in-Some.event c.args.byte c.take.result came.0 refl came.1 c.take.ensures
+    taken_gives c.args.self.now (record c.args.self.now { begun = c.in_ok-begun.begun }) c.take.new.self c.in-Some.event (c.args.byte ∷ []) c.take.result came.0 refl came.1 c.take.ensures
