@@ -1,5 +1,5 @@
 -- What a report set of the code holds, and what flagging answers.
-use Rattle.std.specs.Prelude.{◌≡◌, ◌≢◌, ℕ, ◌<◌, Bool, true, false, Some, None, Ok, Err, Result}
+use Rattle.std.specs.Prelude.{◌≡◌, ◌≢◌, ℕ, ◌<◌, Bool, true, false, cond, ◌&&◌, nat_lt, Some, None, Ok, Err, Result}
 use Rattle.fault.specs.Faults.{flag_number}
 use Rattle.fault.specs.declared.FlagFault.{FlagFault}
 use Rattle.cell_rules.specs.Rules.{Reports, flag_refusal, flags_clean, has, with_flag}
@@ -30,3 +30,10 @@ pub record OneMore (s : Reports) (f : ℕ) (clean : Bool) (t : Reports) : Type 0
   pub other_reports : (g : ℕ) → g ≢ f → flags_clean t g ≡ flags_clean s g
   pub slot : t.slot ≡ s.slot
   pub flow_count : t.flow_count ≡ s.flow_count
+
+-- t is s with a flag of every flow that has none there: flow f is clean if bit f of the mask is set; nothing else differs
+pub record RestFlagged (s : Reports) (mask : ℕ) (t : Reports) : Type 0 where
+  pub slot : t.slot ≡ s.slot
+  pub flow_count : t.flow_count ≡ s.flow_count
+  pub flagged : (f : ℕ) → has t.flagged f ≡ nat_lt f s.flow_count
+  pub clean : (f : ℕ) → flags_clean t f ≡ cond (has s.flagged f) (flags_clean s f) (nat_lt f s.flow_count && has mask f)

@@ -1,4 +1,4 @@
-ghost use Rattle.std.specs.Prelude.{◌≡◌, ◌^◌, ◌<◌};
+ghost use Rattle.std.specs.Prelude.{◌≡◌, ◌^◌, ◌-◌, ◌<◌, ◌≤◌};
 ghost use Rattle.std.specs.Int.RustNames.{bit_or};
 ghost use Rattle.cell_rules.specs.Rules.{has};
 
@@ -9,6 +9,16 @@ pub(crate) struct FlowSet {
 }
 
 impl FlowSet {
+    /// The first so many flows.
+    pub(crate) fn first(count: u8) -> FlowSet
+        requires { count ≤ 16 }
+        ensures { result.bits ≡ 2 ^ count - 1 }
+    {
+        FlowSet {
+            bits: ((1_u32 << count) - 1) as u16,
+        }
+    }
+
     /// Whether a flow is in the set.
     #[tactic(auto, using(std::proofs::lemmas::Nat::Bits::shr_and_one, crate::proofs::FlowSets::none_from_sixteen))]
     pub(crate) fn contains(self, flow: u8) -> bool

@@ -24,7 +24,7 @@ pub struct ReportSet {
 impl ReportSet {
     ghost use Rattle.std.specs.Prelude.{IfOk};
     ghost use Rattle.cell_rules.specs.Rules.{flags_clean, opened};
-    ghost use Rattle.cell.specs.ReportSetView.{Flagged, OneMore, reports_held};
+    ghost use Rattle.cell.specs.ReportSetView.{Flagged, OneMore, RestFlagged, reports_held};
 
     /// The set for a slot of a cell with so many flows, before any of them flags.
     pub(crate) fn open(slot: u32, flow_count: u8) -> ReportSet
@@ -95,5 +95,16 @@ impl ReportSet {
             self.clean = self.clean.with(flow);
         }
         Ok(())
+    }
+
+    /// Has every flow flag that has not yet: clean if its bit is set, that of flow 0 being the lowest, and else dirty. The
+    /// bits past the last flow are passed over.
+    pub fn flag_rest(&mut self, clean: u16)
+        ensures { RestFlagged (reports_held self.old) clean (reports_held self.new) }
+    {
+        let all = FlowSet::first(self.flow_count).bits;
+        let rest = all & !self.flagged.bits;
+        self.clean.bits |= clean & rest;
+        self.flagged.bits = all;
     }
 }

@@ -1,8 +1,10 @@
 -- Events, one after the other.
-use Rattle.std.proofs.Common.{◌≡◌, ◌≢◌, ℕ, List, [], ◌∷◌, ◌++◌, length, Some, None, Ok, Err, Option, Result, false, cond, ◌==◌, refl, sym, ap, ◌∙◌, append_assoc, arith, ◌<◌, length, subst, true, true≢false}
+use Rattle.std.proofs.Common.{◌≡◌, ◌≢◌, ℕ, List, [], ◌∷◌, ◌++◌, length, Some, None, Ok, Err, Option, Result, false, cond, ◌==◌, refl, sym, ap, ◌∙◌, append_assoc, arith, ◌<◌, length, subst, true, true≢false, ◌&&◌, nat_lt}
 use Rattle.std.proofs.lemmas.Bool.Decides.{nat_tests}
+use Rattle.std.proofs.lemmas.Nat.Bits.{bit_at-zero}
 use Rattle.cell.specs.CellView.{said_by}
-use Rattle.cell_rules.specs.Rules.{Reports, State, decided, flags_clean, opening_refusal, outcome}
+use Rattle.cell.specs.ReportSetView.{RestFlagged}
+use Rattle.cell_rules.specs.Rules.{Reports, State, decided, flags_clean, has, opened, opening_refusal, outcome}
 use Rattle.fault.specs.Faults.{event_number, run_number}
 use Rattle.fault.specs.declared.EventFault.{EventFault}
 use Rattle.fault.specs.declared.EventFault.TheVariants.{CutShort, Unknown}
@@ -20,6 +22,15 @@ use Rattle.runner.specs.declared.begun.Begun.TheVariants.{Nothing, Arrival as Ar
 use Rattle.runner.specs.declared.event.Event.{Event}
 use Rattle.runner.specs.declared.event.Event.TheVariants.{Arrival, Phase}
 use Rattle.runner.specs.declared.events.Events.{Events}
+
+-- every flow flags in a set in which none has
+pub flags_by_mask :
+    (s t : Reports) (slot n mask : ℕ) → s ≡ opened slot n → RestFlagged s mask t → flags_clean t ≡ clean_by n mask
+flags_by_mask s t slot n mask new flagged =
+    λ i. λ f.
+    (flagged.clean f
+    ∙ ap (λ x. cond (has x.flagged f) (flags_clean x f) (nat_lt f x.flow_count && has mask f)) new
+    ∙ ap (λ b. cond (b == 1) (flags_clean (opened slot n) f) (clean_by n mask f)) (bit_at-zero f)) i
 
 -- a slot that is decided on flags as the mask says
 pub phase_settled :

@@ -2,7 +2,6 @@ pub mod Output
 pub mod Examples
 pub mod Parsing
 pub mod TableView
-pub mod FlagsView
 pub mod EventsView
 pub mod ToCome
 pub mod Feeding

@@ -1,6 +1,5 @@
 use crate::begun::Begun;
 use crate::event::Event;
-use crate::flags::flag_all;
 use cell::Cell;
 use fault::{CreationFault, OpeningFault, RunFault};
 use record::Record;
@@ -34,12 +33,12 @@ impl Events {
     }
 
     /// Has every flow flag, and decides the slot.
-    // All of these flags are of flows of the set, and first ones; and the set is for the slot that is decided.
+    // The set is for the slot that is decided.
     fn decide(&mut self, clean: u16) -> Result<Record, OpeningFault>
         ensures { PhaseTaken self.old clean self.new result }
     {
         let mut reports = self.cell.open_phase()?;
-        flag_all(&mut reports, clean);
+        reports.flag_rest(clean);
         Ok(self.cell.decide(reports).unwrap())
     }
 

@@ -14,7 +14,6 @@ mod event;
 mod events;
 mod feed;
 mod finish;
-mod flags;
 mod long_table;
 mod partial_table;
 mod push;

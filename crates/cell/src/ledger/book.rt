@@ -4,7 +4,7 @@ ghost use Rattle.cell_rules.specs.Bookable.{Bookable};
 ghost use Rattle.cell.specs.LedgerView.{ledger_rows, outcome_of};
 
 use crate::ledger::Ledger;
-use crate::ledger::steps::{sent, turned};
+use crate::ledger::steps::{count_sent, count_turn};
 use record::taking::{Charge, Taking};
 
 impl Ledger {
@@ -16,12 +16,10 @@ impl Ledger {
         ensures slots { self.new.slots ≡ self.old.slots + 1 }
     {
         if let Some(flow) = marked {
-            let place = usize::from(flow);
-            self.rows[place] = turned(self.rows[place], charge);
+            count_turn(&mut self.rows[usize::from(flow)], charge);
         }
         if let Some(flow) = taking.sender() {
-            let place = usize::from(flow);
-            self.rows[place] = sent(self.rows[place], taking);
+            count_sent(&mut self.rows[usize::from(flow)], taking);
         }
         self.slots += 1;
     }

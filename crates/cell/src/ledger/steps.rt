@@ -19,55 +19,31 @@ fn giving_after(row: &Row) -> u8
     }
 }
 
-/// The row of the marked flow, which has had its turn and is charged for it.
-pub(crate) fn turned(row: Row, charge: Charge) -> Row
-    requires { TurnFits charge row }
-    ensures { result ≡ turned_row charge row }
+/// Counts a turn of the marked flow, and what it is charged.
+pub(crate) fn count_turn(row: &mut Row, charge: Charge)
+    requires { TurnFits charge row.old }
+    ensures { row.new ≡ turned_row charge row.old }
 {
-    let turned = Row {
-        marked: row.marked + 1,
-        giving: giving_after(&row),
-        ..row
-    };
+    row.giving = giving_after(row);
+    row.marked += 1;
     match charge {
-        Charge::Nothing => turned,
-        Charge::LeadDown => Row {
-            lead: row.lead - 1,
-            ..turned
-        },
-        Charge::LagUp => Row {
-            lag: row.lag + 1,
-            ..turned
-        },
-        Charge::Forfeited => Row {
-            forfeited: row.forfeited + 1,
-            ..turned
-        },
+        Charge::Nothing => {}
+        Charge::LeadDown => row.lead -= 1,
+        Charge::LagUp => row.lag += 1,
+        Charge::Forfeited => row.forfeited += 1,
     }
 }
 
-/// The row of the sender, which has sent one more packet, on the account of this taking.
-pub(crate) fn sent(row: Row, taking: Taking) -> Row
-    requires { SendFits taking row }
-    ensures { result ≡ sent_row taking row }
+/// Counts one more packet of the sender, on the account of this taking.
+pub(crate) fn count_sent(row: &mut Row, taking: Taking)
+    requires { SendFits taking row.old }
+    ensures { row.new ≡ sent_row taking row.old }
 {
-    let sent = Row {
-        sent: row.sent + 1,
-        ..row
-    };
+    row.sent += 1;
     match taking {
-        Taking::Idle | Taking::Own(_) => sent,
-        Taking::LagRepaid(_) => Row {
-            lag: row.lag - 1,
-            ..sent
-        },
-        Taking::LeadCharged(_) => Row {
-            lead: row.lead + 1,
-            ..sent
-        },
-        Taking::Free(_) => Row {
-            free: row.free + 1,
-            ..sent
-        },
+        Taking::Idle | Taking::Own(_) => {}
+        Taking::LagRepaid(_) => row.lag -= 1,
+        Taking::LeadCharged(_) => row.lead += 1,
+        Taking::Free(_) => row.free += 1,
     }
 }

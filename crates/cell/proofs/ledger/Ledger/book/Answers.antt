@@ -3,8 +3,8 @@ use Rattle.cell.proofs.LedgerBooking.{Turned, Sent, turned_one, turned_none, sen
 use Rattle.cell.proofs.ledger.Ledger.book.Goals as goal
 use Rattle.cell.proofs.ledger.Ledger.book.Goals.{in-Some, in_default, in-Some-sender, in_default-sender}
 
-pub sent-requires : goal.sent-requires
-sent-requires c =
+pub count_sent-requires : goal.count_sent-requires
+count_sent-requires c =
     let l = c.args.self.now in
     let m = c.args.marked in
     let t = c.args.taking in
@@ -13,12 +13,12 @@ sent-requires c =
     let ys = c.match-marked.self.1.0 in
     let turned : Turned l m t d h ys = elim c.match-marked.branch [
       | in-Some w ↦
-          turned_one l m t d h ys w.in-Some.flow w.in-Some.is w.from-place.ensures w.turned.ensures
+          turned_one l m t d h ys w.in-Some.flow w.in-Some.is w.from.ensures w.count_turn.ensures
           (ap (λ s. s.1.0) w.self-is)
       | in_default w ↦ turned_none l m t d h ys w.in_default.is (ap (λ s. s.1.0) w.self-is)
     ] in
     sender_fits l m t d h ys turned c.in-Some-sender.flow c.requires.early c.in-Some-sender.ensures
-    c.from-place-in-Some-sender.ensures
+    c.from-in-Some-sender.ensures
 
 pub invariant_of-self-clause-kept : goal.invariant_of-self-clause-kept
 invariant_of-self-clause-kept c =
@@ -31,14 +31,14 @@ invariant_of-self-clause-kept c =
     let zs = c.match-sender.self.1.0 in
     let turned : Turned l m t d h ys = elim c.match-marked.branch [
       | in-Some w ↦
-          turned_one l m t d h ys w.in-Some.flow w.in-Some.is w.from-place.ensures w.turned.ensures
+          turned_one l m t d h ys w.in-Some.flow w.in-Some.is w.from.ensures w.count_turn.ensures
           (ap (λ s. s.1.0) w.self-is)
       | in_default w ↦ turned_none l m t d h ys w.in_default.is (ap (λ s. s.1.0) w.self-is)
     ] in
     let sent : Sent l m t d h zs = elim c.match-sender.branch [
       | in-Some-sender w ↦
           sent_one l m t d h ys turned zs w.in-Some-sender.flow w.in-Some-sender.ensures
-          w.from-place-in-Some-sender.ensures w.sent.ensures (ap (λ s. s.1.0) w.self-is)
+          w.from-in-Some-sender.ensures w.count_sent.ensures (ap (λ s. s.1.0) w.self-is)
       | in_default-sender w ↦ sent_none l m t d h ys turned zs w.in_default-sender.ensures (ap (λ s. s.1.0) w.self-is)
     ] in
     slot_kept l m t d h zs sent
@@ -54,13 +54,13 @@ returns-clause-rows c =
     let zs = c.match-sender.self.1.0 in
     let turned : Turned l m t d h ys = elim c.match-marked.branch [
       | in-Some w ↦
-          turned_one l m t d h ys w.in-Some.flow w.in-Some.is w.from-place.ensures w.turned.ensures
+          turned_one l m t d h ys w.in-Some.flow w.in-Some.is w.from.ensures w.count_turn.ensures
           (ap (λ s. s.1.0) w.self-is)
       | in_default w ↦ turned_none l m t d h ys w.in_default.is (ap (λ s. s.1.0) w.self-is)
     ] in
     elim c.match-sender.branch [
       | in-Some-sender w ↦
           sent_one l m t d h ys turned zs w.in-Some-sender.flow w.in-Some-sender.ensures
-          w.from-place-in-Some-sender.ensures w.sent.ensures (ap (λ s. s.1.0) w.self-is)
+          w.from-in-Some-sender.ensures w.count_sent.ensures (ap (λ s. s.1.0) w.self-is)
       | in_default-sender w ↦ sent_none l m t d h ys turned zs w.in_default-sender.ensures (ap (λ s. s.1.0) w.self-is)
     ]
