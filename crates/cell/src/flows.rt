@@ -17,7 +17,8 @@ pub(crate) struct Flows<'a> {
 }
 
 impl Flows<'_> {
-    ghost use Rattle.std.specs.Prelude.{◌≡◌, ◌&&◌, nat_lt};
+    ghost use Rattle.std.specs.Prelude.{◌≡◌, ◌-◌, ◌&&◌, nat_lt, IfSome};
+    ghost use Rattle.std.specs.List.{find, range_with_len};
     ghost use Rattle.cell_rules.specs.Rules.{waiting, able, lowest_able, repayable};
     ghost use Rattle.cell_rules.specs.InOrder.{LowestAble};
     ghost use Rattle.cell.specs.FlowsView.{clean_of, rows_of};
@@ -58,6 +59,14 @@ impl Flows<'_> {
         ensures { result ≡ repayable (rows_of self.now) (clean_of self.now) flow }
     {
         self.row(flow).lags() && self.is_able(flow)
+    }
+
+    /// The lowest lagging flow that is able, of those from one up to another, which is not among them.
+    pub(crate) fn first_repayable(&self, from: u8, to: u8) -> Option<u8>
+        ensures found { result ≡ find (repayable (rows_of self.now) (clean_of self.now)) (range_with_len from (to - from)) }
+        ensures inside { IfSome result (λ flow. flow < to) }
+    {
+        (from..to).find(|flow| self.is_repayable(*flow))
     }
 
     /// The lowest flow that is able.

@@ -37,9 +37,10 @@ impl Ring {
         ensures inside { IfSome result (λ flow. flow < 16) }
     {
         let next = self.pointer + 1;
-        (next..flows.count())
-            .chain(0..next)
-            .find(|flow| flows.is_repayable(*flow))
+        match flows.first_repayable(next, flows.count()) {
+            Some(flow) => Some(flow),
+            None => flows.first_repayable(0, next),
+        }
     }
 
     /// Finds the lagging flow that is to send, if one is able, and moves as it does when that flow sends. It finds the

@@ -43,6 +43,7 @@ impl Events {
     }
 
     /// Has an event happen: the record of the slot, if it decides one.
+    #[inline(always)]
     fn take(&mut self, event: Event) -> Result<Option<Record>, RunFault>
         ensures { Taken self.old event self.new result }
     {
@@ -56,6 +57,8 @@ impl Events {
     }
 
     /// Takes a byte: the record of a slot, if the byte makes a control phase whole.
+    // Apart from the events that come whole, which are nearly all.
+    #[inline(never)]
     pub(crate) fn push(&mut self, byte: u8) -> Result<Option<Record>, RunFault>
         ensures { Gives (λ rest. events_to_come self.old (byte ∷ rest)) (events_to_come self.new) result }
     {

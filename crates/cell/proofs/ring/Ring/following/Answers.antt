@@ -1,21 +1,22 @@
-use Rattle.std.proofs.Common.{◌∙◌, ◌+◌, ◌-◌, length, sym, refl, rules, arith, tests}
-use Rattle.std.proofs.lemmas.Iterator.{YieldsList-from_range}
-use Rattle.std.proofs.lemmas.Iterator.Adapters.{option_map_id}
-use Rattle.std.proofs.lemmas.Iterator.Consumers.{YieldsList-from_chain}
-use Rattle.std.proofs.lemmas.Iterator.Search.{find_from_yields_List}
+use Rattle.std.proofs.Common.{◌+◌, ◌-◌, Some, None, refl, ap, ◌∙◌}
+use Rattle.std.specs.List.{find, range_with_len}
 use Rattle.cell_rules.specs.Rules.{repayable, has}
+use Rattle.cell.proofs.Upward.{found_around}
 use Rattle.cell.proofs.ring.Ring.following.Goals as goal
 
-pub returns-clause-found : goal.returns-clause-found
-returns-clause-found c =
+pub returns-in-Some-clause-found : goal.returns-in-Some-clause-found
+returns-in-Some-clause-found c =
     let f = c.args.flows.now in
-    let next = c.args.self.now.pointer + 1 in
-    let n = length f.rows.now in
-    let found
-    = find_from_yields_List (repayable f.rows.now (has f.clean.bits)) _ _ c.find.result c.find.ensures.ran
-    (YieldsList-from_chain (YieldsList-from_range next n (n - next) (cc) refl)
-    (YieldsList-from_range 0 next next (cc) (omega arith))
-    (cc)
-    (cc))
-    (λ x b q k. search (rules, tests)) in
-    sym (option_map_id _) ∙ found
+    let test = repayable f.rows.now (has f.clean.bits) in
+    let p = c.args.self.now.pointer in
+    found_around test _ p (Some c.in-Some.flow) (find test (range_with_len 0 (p + 1 - 0)))
+    (c.in-Some.ensures.found ∙ ap (λ n. find test (range_with_len (p + 1) (n - (p + 1)))) c.count.ensures) refl
+
+pub returns-in-None-clause-found : goal.returns-in-None-clause-found
+returns-in-None-clause-found c =
+    let f = c.args.flows.now in
+    let test = repayable f.rows.now (has f.clean.bits) in
+    let p = c.args.self.now.pointer in
+    found_around test _ p None c.first_repayable-in-None.result
+    (c.in-None.ensures.found ∙ ap (λ n. find test (range_with_len (p + 1) (n - (p + 1)))) c.count.ensures)
+    c.first_repayable-in-None.ensures.found
