@@ -29,6 +29,7 @@ fn release<R: Reference>(reference: &mut R, ledger: &Ledger, marked: Option<u8>)
 }
 
 /// Decides a slot on a report set that is for it: asks for a turn, settles the slot by it, and books it.
+#[inline(always)]
 fn decide_on<R: Reference>(
     reference: &mut R,
     ledger: &mut Ledger,
@@ -65,6 +66,7 @@ impl<R: Reference> Cell<R> {
     ///
     /// Whichever past led here, with this call it leads to the cell as it is then, and the claim of fairness holds of
     /// it.
+    #[inline(always)]
     pub fn decide(
         &mut self,
         reports: ReportSet,

@@ -120,6 +120,7 @@ impl Flows<'_> {
     }
 
     /// Settles a slot: who sends, and what the marked flow, if there is one, is charged.
+    #[inline(always)]
     pub(crate) fn settle(&self, ring: &mut Ring, marked: Option<u8>) -> (Taking, Charge)
         requires { IfSome marked (λ flow. flow < length (rows_of self.now)) }
         ensures settled { result ≡ slot_of (rows_of self.now) (clean_of self.now) (ring_held ring.old) marked }

@@ -1,6 +1,7 @@
 -- Events, one after the other.
-use Rattle.std.proofs.Common.{◌≡◌, ◌≢◌, ℕ, List, [], ◌∷◌, ◌++◌, length, Some, None, Ok, Err, Option, Result, false, cond, ◌==◌, refl, sym, ap, ◌∙◌, append_assoc, arith, ◌<◌, length, subst, true, true≢false, ◌&&◌, nat_lt}
+use Rattle.std.proofs.Common.{◌≡◌, ◌≢◌, ℕ, List, [], ◌∷◌, ◌++◌, length, Some, None, Ok, Err, Option, Result, false, cond, ◌==◌, refl, sym, ap, ◌∙◌, append_assoc, arith, ◌<◌, length, subst, true, true≢false, ◌&&◌, nat_lt, IfOk, ◌≤◌, ◌-◌, get_or, take, drop}
 use Rattle.std.proofs.lemmas.Bool.Decides.{nat_tests}
+use Rattle.std.proofs.Math.Seq.{take-length}
 use Rattle.std.proofs.lemmas.Nat.Bits.{bit_at-zero}
 use Rattle.cell.specs.CellView.{said_by}
 use Rattle.cell.specs.ReportSetView.{RestFlagged}
@@ -136,3 +137,40 @@ nothing_begun ArrivalBegun h = absurd (true≢false (sym h))
 nothing_begun (ArrivalFor f) h = absurd (true≢false (sym h))
 nothing_begun PhaseBegun h = absurd (true≢false (sym h))
 nothing_begun (PhaseWith m) h = absurd (true≢false (sym h))
+
+-- behind an event that is taken, none is begun if none was before
+pub none_begun_after :
+    (old new : Events) (e : Event) (r : Result (Option Record) RunFault)
+    → none_begun old.begun ≡ true
+    → Taken old e new r
+    → IfOk r (λ _. none_begun new.begun ≡ true)
+none_begun_after old new e (Ok r) h taken = ap none_begun taken.1 ∙ h
+none_begun_after old new e (Err f) h taken = tt
+
+-- ## Events taken off the front of bytes
+
+-- the first three bytes, and those behind them
+pub front_three :
+    (xs : List ℕ)
+    → 3 ≤ length xs
+    → xs ≡ (get_or xs 0 0 ∷ get_or xs 1 0 ∷ get_or xs 2 0 ∷ []) ++ take (length xs - 3) (drop 3 xs)
+front_three [] h = absurd (omega (arith, h))
+front_three (x ∷ []) h = absurd (omega (arith, h))
+front_three (x ∷ y ∷ []) h = absurd (omega (arith, h))
+front_three (x ∷ y ∷ z ∷ xs) h =
+    let e : length (x ∷ y ∷ z ∷ xs) - 3 ≡ length xs = omega arith in
+    ap (λ s. x ∷ y ∷ z ∷ s) (sym (ap (λ n. take n xs) e ∙ take-length xs))
+
+-- what those before gave, and then one more
+pub one_more_taken :
+    (before mid after : Events) (bytes left front behind written more : List ℕ)
+    → ((rest : List ℕ) → events_to_come before (bytes ++ rest) ≡ written ++ events_to_come mid (left ++ rest))
+    → left ≡ front ++ behind
+    → ((rest : List ℕ) → events_to_come mid (front ++ rest) ≡ more ++ events_to_come after rest)
+    → (rest : List ℕ)
+    → events_to_come before (bytes ++ rest) ≡ (written ++ more) ++ events_to_come after (behind ++ rest)
+one_more_taken before mid after bytes left front behind written more so_far split gives rest =
+    so_far rest
+    ∙ ap (λ l. written ++ events_to_come mid l) (ap (λ l. l ++ rest) split ∙ append_assoc front behind rest)
+    ∙ ap (λ s. written ++ s) (gives (behind ++ rest))
+    ∙ sym (append_assoc written more (events_to_come after (behind ++ rest)))

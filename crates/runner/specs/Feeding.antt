@@ -1,9 +1,7 @@
 -- Feeding bytes to a run.
-use Rattle.std.specs.Prelude.{◌≡◌, ℕ, List, [], ◌++◌, Option, Result}
+use Rattle.std.specs.Prelude.{◌≡◌, ℕ, List, [], ◌++◌, Option}
 use Rattle.std.specs.Io.KnownBytes.{Appends}
-use Rattle.fault.specs.declared.RunFault.{RunFault}
-use Rattle.record.specs.declared.Record.{Record}
-use Rattle.runner.specs.ToCome.{answer_bytes, to_come}
+use Rattle.runner.specs.ToCome.{to_come}
 use Rattle.runner.specs.declared.Run.{Run}
 
 -- A run before was fed bytes but for those that are left, which leaves it as after, and an output that held some bytes
@@ -17,8 +15,3 @@ pub record FedUpTo (before : Run) (bytes : List ℕ) (after : Run) (left : List 
 -- it was fed all of them
 abbrev pub Fed : Run → List ℕ → Run → Option (List ℕ) → Option (List ℕ) → Type 0
 Fed before bytes after old new = FedUpTo before bytes after [] old new
-
--- a run before takes some of the bytes, which gives an answer, and leaves it as after, and the bytes behind
-abbrev pub FrontTaken : Run → List ℕ → Run → Result (Option Record) RunFault → List ℕ → Type 0
-FrontTaken before bytes after answer behind =
-    (rest : List ℕ) → to_come before (bytes ++ rest) ≡ answer_bytes answer ++ to_come after (behind ++ rest)

@@ -1,10 +1,28 @@
+ghost use Rattle.std.specs.Prelude.{◌≡◌, ◌+◌, ◌≤◌, ◌++◌, length};
+ghost use Rattle.record.specs.Layout.{record_bytes};
+
 use crate::begun::Begun;
 use crate::event::Event;
+use arrayvec::ArrayVec;
 use cell::Cell;
 use fault::{CreationFault, OpeningFault, RunFault};
 use record::Record;
 use table::Table;
 use table_reference::TableReference;
+
+/// The bytes of a record.
+const RECORD_BYTES: usize = 12;
+
+/// The bytes of records that are still to be written: of so many records at most.
+pub(crate) type Records = ArrayVec<u8, 768>;
+
+/// Adds the bytes of a record, for which there is room.
+fn add_record(records: &mut Records, latest: &Record)
+    requires { length records.old.items + 12 ≤ 768 }
+    ensures { records.new.items ≡ records.old.items ++ record_bytes latest.now }
+{
+    records.try_extend_from_slice(&latest.bytes()).unwrap();
+}
 
 /// The events of a run: the cell that they are for, and what has come of the one that is not whole.
 #[derive(Drop)]
@@ -14,8 +32,8 @@ pub(crate) struct Events {
 }
 
 impl Events {
-    ghost use Rattle.runner.specs.EventsView.{Begins, Gives, PhaseTaken, Taken, events_to_come};
-    ghost use Rattle.std.specs.Prelude.{◌≡◌, true, ◌∷◌, ◌++◌};
+    ghost use Rattle.runner.specs.EventsView.{Begins, FrontTaken, Gives, PhaseTaken, Taken, events_to_come};
+    ghost use Rattle.std.specs.Prelude.{◌≡◌, ◌≤◌, true, [], ◌∷◌, ◌++◌, IfOk, length};
     ghost use Rattle.runner.specs.Parsing.{none_begun};
 
     /// Before the first event: the cell of a table, over the reference of the table's kind.
@@ -34,6 +52,7 @@ impl Events {
 
     /// Has every flow flag, and decides the slot.
     // The set is for the slot that is decided.
+    #[inline(always)]
     fn decide(&mut self, clean: u16) -> Result<Record, OpeningFault>
         ensures { PhaseTaken self.old clean self.new result }
     {
@@ -71,12 +90,41 @@ impl Events {
     }
 
     /// Takes the bytes of a whole event, where the last one is whole: the record of a slot, if it is a control phase.
-    pub(crate) fn take_whole(&mut self, bytes: [u8; 3]) -> Result<Option<Record>, RunFault>
-        requires { none_begun self.old.begun ≡ true }
-        ensures { Gives (λ rest. events_to_come self.old (bytes ++ rest)) (events_to_come self.new) result }
+    fn take_whole(&mut self, bytes: [u8; 3]) -> Result<Option<Record>, RunFault>
+        requires between { none_begun self.old.begun ≡ true }
+        ensures gives { Gives (λ rest. events_to_come self.old (bytes ++ rest)) (events_to_come self.new) result }
+        ensures between { IfOk result (λ _. none_begun self.new.begun ≡ true) }
     {
         let event = Event::read(bytes)?;
         self.take(event)
+    }
+
+    /// Takes whole events from the front of the bytes, where the last one is whole, while there is room for one more record
+    /// and up to one that is refused: the bytes of their records are added, and those behind are told.
+    // Apart from its callers, which have more to hold than is good for what is done so often.
+    #[inline(never)]
+    pub(crate) fn take_front<'a>(
+        &mut self,
+        bytes: &'a [u8],
+        records: &mut Records,
+    ) -> (Result<(), RunFault>, &'a [u8])
+        requires between { none_begun self.old.begun ≡ true }
+        requires empty { records.old.items ≡ [] }
+        ensures taken { FrontTaken self.old bytes.now records.new.items self.new result.1.now result.0 }
+        ensures no_more { length result.1.now ≤ length bytes.now }
+    {
+        let mut rest = bytes;
+        while records.remaining_capacity() >= RECORD_BYTES
+            && let [first, a, b, behind @ ..] = rest
+        {
+            rest = behind;
+            match self.take_whole([*first, *a, *b]) {
+                Ok(None) => {}
+                Ok(Some(record)) => add_record(records, &record),
+                Err(fault) => return (Err(fault), rest),
+            }
+        }
+        (Ok(()), rest)
     }
 
     /// Whether the last event is whole.

@@ -1,6 +1,5 @@
-ghost use Rattle.std.specs.Prelude.{◌≡◌, ◌<◌, ℕ, List, [], ◌∷◌, ◌++◌, IfErr, length};
+ghost use Rattle.std.specs.Prelude.{◌≡◌, ℕ, List, [], ◌∷◌, ◌++◌, IfErr};
 ghost use Rattle.runner.specs.EventsView.{Gives};
-ghost use Rattle.runner.specs.Feeding.{FrontTaken};
 ghost use Rattle.runner.specs.ToCome.{answer_bytes, to_come};
 
 use crate::Run;
@@ -53,28 +52,5 @@ impl Run {
             self.stage = Stage::Over;
         }
         answer
-    }
-
-    /// Takes a whole event, if one may stand in front of the bytes, and else a byte, as `push` does: what that gives, and
-    /// the bytes behind.
-    pub(crate) fn push_front<'a>(
-        &mut self,
-        bytes: &'a [u8],
-    ) -> (Result<Option<Record>, RunFault>, &'a [u8])
-        requires some { 0 < length bytes.now }
-        ensures taken { FrontTaken self.old bytes.now self.new result.0 result.1.now }
-        ensures fewer { length result.1.now < length bytes.now }
-    {
-        match (&mut self.stage, bytes) {
-            (Stage::Events(events), [first, a, b, behind @ ..]) if events.between() => {
-                let answer = events.take_whole([*first, *a, *b]);
-                if answer.is_err() {
-                    self.stage = Stage::Over;
-                }
-                (answer, behind)
-            }
-            (_, [byte, behind @ ..]) => (self.push(*byte), behind),
-            (_, []) => (Ok(None), bytes),
-        }
     }
 }

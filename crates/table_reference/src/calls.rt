@@ -70,6 +70,7 @@ impl Reference for TableReference {
         }
     }
 
+    #[inline(always)]
     fn turn(&mut self) -> Option<u8> {
         match self {
             TableReference::RoundRobin(robin) => robin.turn(),
