@@ -1,5 +1,5 @@
 -- Start tags less virtual time mark as start tags and virtual time do, for ever.
-use Rattle.std.proofs.Common.{◌≡◌, ℕ, ◌+◌, ◌-◌, ◌*◌, ◌/◌, ◌<◌, ◌≤◌, max, Bool, true, false, cond, ◌&&◌, leb, List, [], ◌∷◌, map, length, set, Some, None, Option, sym, refl, ap, ◌∙◌, subst, ⊎_elim, arith}
+use Rattle.std.proofs.Common.{◌≡◌, ℕ, ◌+◌, ◌-◌, ◌*◌, ◌/◌, ◌<◌, ◌≤◌, ◌≢◌, max, Bool, true, false, cond, ◌&&◌, leb, List, [], ◌∷◌, map, length, set, Some, None, Option, sym, refl, ap, ◌∙◌, subst, ⊎_elim, arith}
 use lib.ListN.{length-map}
 use Rattle.std.specs.List.{best_of, AllByRecursion}
 use Rattle.std.proofs.ByRecursion.{All-get_or, All-set, All-from_get_or}
@@ -114,6 +114,27 @@ moved_ahead v ss =
 
 pub time_ahead : (v : ℕ) (ss : List Stamp) → time_after v (lowest ss) ≡ v → AllByRecursion (Ahead v) ss
 time_ahead v ss e = subst (λ d. AllByRecursion (Ahead d) ss) e (moved_ahead v ss)
+
+-- where a due flow is at virtual time, it stays
+pub time_stays :
+    (v : ℕ) (ss : List Stamp) (k : ℕ) → AllByRecursion (Ahead v) ss → k < length ss → (stamp_at ss k).due ≡ true
+    → (stamp_at ss k).tag ≡ v → time_after v (lowest ss) ≡ v
+time_stays v ss k a l due at =
+    let m = lowest_le ss k l due in
+    let j = lowest_at ss m.0 m.1 in
+    let ahead : v ≤ (stamp_at ss j.0).tag = All-get_or (Ahead v) ss j.0 no_stamp j.1 a j.2 in
+    ap (time_after v) m.1 ∙ omega (arith, m.2, at, ahead, j.3)
+
+-- where a due flow f is past virtual time, another one is at it
+pub other_at_time :
+    (v : ℕ) (ss : List Stamp) (f : ℕ) → time_after v (lowest ss) ≡ v → f < length ss → (stamp_at ss f).due ≡ true
+    → v < (stamp_at ss f).tag
+    → (k : ℕ) × (k ≢ f) × (k < length ss) × ((stamp_at ss k).due ≡ true) × ((stamp_at ss k).tag ≡ v)
+other_at_time v ss f e l due past =
+    let m = lowest_le ss f l due in
+    let j = lowest_at ss m.0 m.1 in
+    let at : m.0 ≡ v = ap (time_after v) (sym m.1) ∙ e in
+    (j.0, λ q. omega (arith, past, at, j.3, ap (λ k. (stamp_at ss k).tag) q), j.1, j.2, omega (arith, j.3, at))
 
 call_ahead : (c : Clock) (x : Call) → AllByRecursion (Ahead (clock_after c x).time) (stamps_after c x)
 call_ahead c x = moved_ahead c.time (stamps_after c x)

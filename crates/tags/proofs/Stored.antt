@@ -1,10 +1,10 @@
 -- The array of the code and the stamps that it stands for, when a call changes them.
-use Rattle.std.specs.Prelude.{◌≡◌, ℕ, ◌+◌, ◌*◌, ◌/◌, ◌<◌, ◌≤◌, max, Bool, true, false, cond, List, length, map, take, Some, None, slice_set}
+use Rattle.std.specs.Prelude.{◌≡◌, ℕ, ◌+◌, ◌*◌, ◌/◌, ◌<◌, ◌≤◌, max, Bool, true, false, cond, List, ◌&&◌, length, map, take, Some, None, nat_lt, nat_eq, slice_set}
 use Rattle.std.proofs.Common.{sym, refl, ap, subst, ◌∙◌, arith, length-set}
 use Rattle.std.specs.List.{AllByRecursion}
 use Rattle.std.proofs.ByRecursion.{All-set, All-get_or}
-use Rattle.std.proofs.lemmas.List.{get_or-map, take-map, length-map, map-set}
-use Rattle.std.proofs.lemmas.Bool.{and_parts, leb-true}
+use Rattle.std.proofs.lemmas.List.{get_or-map, get_or-set_same, get_or-set_other, take-map, length-map, map-set}
+use Rattle.std.proofs.lemmas.Bool.{and_parts, leb-true, ltb-true, eqb-true}
 use Rattle.reference.specs.Calls.Call.{turning, entering, leaving}
 use Rattle.reference.specs.Flows.{sum}
 use Rattle.reference.proofs.Fields.{part_map}
@@ -14,12 +14,12 @@ use Rattle.reference.proofs.Totals.{sum_kept, sum_map}
 use Rattle.tag_rule.specs.declared.stamp.Stamp.{Stamp}
 use Rattle.tags.specs.declared.Tags.{Tags}
 use Rattle.tag_rule.specs.Rule.{Clock, no_stamp, stamp_at, eligible, marked, charged, charge, entered_at, departed, lowest, time_after}
-use Rattle.tag_rule.specs.Tags.{Ahead, with_lookahead, clock, seen, held_after, weight_of, advance, later, settled, switching, Kept, KeptBelow}
-use Rattle.tags.specs.Base.{moved_on}
+use Rattle.tag_rule.specs.Tags.{Ahead, is_due, with_lookahead, clock, seen, held_after, weight_of, advance, later, settled, switching, Kept, KeptBelow}
+use Rattle.tags.specs.Base.{moved_on, stays}
 use Rattle.tags.specs.View.{clock_of, tags_held, entry_of}
 use Rattle.tag_rule.proofs.Laws.{changed_sound, settled_same, later_none}
 use Rattle.tag_rule.proofs.Picks.{picked_eligible}
-use Rattle.tag_rule.proofs.SameMarks.{seen_later, same_mark, same_step, time_ahead}
+use Rattle.tag_rule.proofs.SameMarks.{seen_later, same_mark, same_step, time_ahead, time_stays, other_at_time}
 use Rattle.tag_rule.proofs.VirtualTime.{seen_on_time, time_again}
 use Rattle.tags.proofs.Steps.{entry_if, entry_due, entry_idle, entry_late}
 use Rattle.tags.specs.Held.{held_sound, front_at}
@@ -41,6 +41,49 @@ pub record Counted (t : Tags) (zs : List Stamp) (v : ℕ) : Type 0 where
 -- no due flow is behind
 pub held_ahead : (t : Tags) → AllByRecursion (Ahead t.time) (clock_of t).stamps
 held_ahead t = time_ahead t.time (clock_of t).stamps t.on_time
+
+-- Flow f is given the stamp y, where virtual time stays. (i is f, as a number of another width.)
+module _ (t : Tags) (f : ℕ) (y : Stamp) (i : ℕ) (l : f < t.count) (ahead : Ahead t.time y) (q : i ≡ f) where
+  given : List Stamp
+  given = slice_set (clock_of t).stamps f y
+
+  given_ahead : AllByRecursion (Ahead t.time) given
+  unfolding given
+  given_ahead = All-set (Ahead t.time) (clock_of t).stamps f y ahead (held_ahead t)
+
+  inside : f < length (clock_of t).stamps
+  inside = omega (arith, l, front_length t.stamps t.count t.sized t.few)
+
+  stays_by_other : (stamp_at (clock_of t).stamps f).due ≡ true → t.time < (stamp_at (clock_of t).stamps f).tag → time_after t.time (lowest given) ≡ t.time
+  unfolding given
+  stays_by_other due past =
+      let o = other_at_time t.time (clock_of t).stamps f t.on_time inside due past in
+      let same : stamp_at given o.0 ≡ stamp_at (clock_of t).stamps o.0 = get_or-set_other (clock_of t).stamps f o.0 y no_stamp o.1 in
+      time_stays t.time given o.0 given_ahead (omega (arith, o.2, length-set (clock_of t).stamps f y))
+      (ap is_due same ∙ o.3) (ap (λ s. s.tag) same ∙ o.4)
+
+  stays_by_this : y.due ≡ true → y.tag ≡ t.time → time_after t.time (lowest given) ≡ t.time
+  unfolding given
+  stays_by_this due at =
+      let same : stamp_at given f ≡ y = get_or-set_same (clock_of t).stamps f y no_stamp inside in
+      time_stays t.time given f given_ahead (omega (arith, inside, length-set (clock_of t).stamps f y))
+      (ap is_due same ∙ due) (ap (λ s. s.tag) same ∙ at)
+
+  stays_cases :
+      (b : Bool) → (stamp_at (clock_of t).stamps f).due ≡ b
+      → cond b (nat_lt t.time (stamp_at (clock_of t).stamps f).tag) (y.due && nat_eq y.tag t.time) ≡ true
+      → time_after t.time (lowest given) ≡ t.time
+  stays_cases true due h = stays_by_other due (ltb-true _ _ h)
+  stays_cases false idle h = let h = and_parts y.due (nat_eq y.tag t.time) h in stays_by_this h.0 (eqb-true _ _ h.1)
+
+  pub put_stays : stays t.time (stamp_at t.stamps i) y ≡ true → t.time ≡ time_after t.time (lowest (take t.count (slice_set t.stamps i y)))
+  unfolding given
+  put_stays h =
+      let there : stamp_at t.stamps i ≡ stamp_at (clock_of t).stamps f = ap (stamp_at t.stamps) q ∙ sym (front_at t.stamps t.count f l) in
+      let front : take t.count (slice_set t.stamps i y) ≡ given = take_set t.count t.stamps i y ∙ ap (λ j. slice_set (clock_of t).stamps j y) q in
+      sym
+      (ap (λ ss. time_after t.time (lowest ss)) front
+      ∙ stays_cases (stamp_at (clock_of t).stamps f).due refl (ap (λ s. stays t.time s y) (sym there) ∙ h))
 
 -- Flow f is given the stamp y, and virtual time moves on. (n and i are the count and f, as numbers of another width.)
 module _ (t : Tags) (f : ℕ) (y : Stamp) (n i v : ℕ)

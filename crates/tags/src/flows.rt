@@ -6,7 +6,7 @@ ghost use Rattle.tags.specs.Base.{moved_on};
 ghost use Rattle.tags.specs.View.{clock_of, tags_held};
 
 use crate::Tags;
-use crate::time::{count_from, moved_on};
+use crate::time::{count_from, moved_on, stays};
 use tag_rule::stamp::Stamp;
 
 /// The latest virtual time, counted from the base: past it the base moves up.
@@ -35,12 +35,17 @@ impl Tags {
         requires ahead { Ahead self.old.time stamp }
         ensures { tags_held self.new ≡ seen (moved_on (clock_of self.old) (slice_set (clock_of self.old).stamps flow stamp)) }
     {
-        self.stamps[usize::from(flow)] = stamp;
-        // The slice is taken of the array: `flows` would lend the whole value, which is whole only after the last line.
-        self.time = moved_on(self.time, &self.stamps[..usize::from(self.count)]);
-        if self.time > LATEST {
-            count_from(self.time, &mut self.stamps);
-            self.time = 0;
+        let place = usize::from(flow);
+        let old = self.stamps[place];
+        self.stamps[place] = stamp;
+        // Most calls leave virtual time where it is, which is seen without a look at each flow.
+        if !stays(self.time, &old, &stamp) {
+            // The slice is taken of the array: `flows` would lend the whole value, which is whole only after the last line.
+            self.time = moved_on(self.time, &self.stamps[..usize::from(self.count)]);
+            if self.time > LATEST {
+                count_from(self.time, &mut self.stamps);
+                self.time = 0;
+            }
         }
     }
 }
