@@ -180,26 +180,6 @@ module _ (t : Tags) (f i : ℕ) (q : i ≡ f) (l : f < t.count) where
       (get_or-map (later t.time) t.stamps i no_stamp no_stamp (omega (arith, inside, t.sized, t.few)))
       (t.kept i inside)
 
-  -- its entry: it has one if it is due and not past the lookahead. (p and d are the lookahead and the delay weight, as numbers
-  -- of another width.)
-  pub entry_there :
-      (p d : ℕ) → p ≡ t.lookahead → d ≡ (stamp_at t.stamps i).delay_weight
-      → (stamp_at t.stamps i).due ≡ true → (stamp_at t.stamps i).tag ≤ t.time + p * 720720
-      → Some (record { finish = (stamp_at t.stamps i).tag + 720720 / d; flow = f }) ≡ entry_of (clock_of t) f
-  entry_there p d w e due le =
-      ap (λ n. Some (record { finish = (stamp_at t.stamps i).tag + 720720 / n; flow = f })) e
-      ∙ (entry_due t.time t.lookahead f (stamp_at t.stamps i) due (omega (arith, w, le))
-      ∙ ap (entry_if t.time t.lookahead f) stamp_there)
-
-  pub none_there_idle : (stamp_at t.stamps i).due ≡ false → None ≡ entry_of (clock_of t) f
-  none_there_idle idle =
-      entry_idle t.time t.lookahead f (stamp_at t.stamps i) idle ∙ ap (entry_if t.time t.lookahead f) stamp_there
-
-  pub none_there_late : (p : ℕ) → p ≡ t.lookahead → t.time + p * 720720 < (stamp_at t.stamps i).tag → None ≡ entry_of (clock_of t) f
-  none_there_late p w late =
-      entry_late t.time t.lookahead f (stamp_at t.stamps i) (omega (arith, w, late))
-      ∙ ap (entry_if t.time t.lookahead f) stamp_there
-
   -- the stamp as it is after the flow enters, or leaves
   abbrev pub switched : Bool → ℕ → Stamp
   switched b n =
@@ -222,6 +202,36 @@ module _ (t : Tags) (f i : ℕ) (q : i ≡ f) (l : f < t.count) where
       ap (λ m. seen (moved_on (clock_of t) (slice_set (clock_of t).stamps f (switched false m)))) e
       ∙ (ap (λ s. seen (moved_on (clock_of t) (slice_set (clock_of t).stamps f (departed s)))) stamp_there
       ∙ same_step (clock_of t) (held_ahead t) (leaving f))
+
+-- The stamps ss that the slice of the flows shows, and the entry of flow f: it has one if it is due and not past the lookahead.
+-- (p and d are the lookahead and the delay weight, as numbers of another width.)
+module _ (t : Tags) (ss : List Stamp) (f : ℕ) (same : ss ≡ (clock_of t).stamps) where
+  shown : stamp_at ss f ≡ stamp_at (clock_of t).stamps f
+  shown = ap (λ zs. stamp_at zs f) same
+
+  pub shown_below : f < length ss → f < t.count
+  shown_below l = omega (arith, l, ap length same, front_length t.stamps t.count t.sized t.few)
+
+  pub shown_delay : f < length ss → 1 ≤ (stamp_at ss f).delay_weight
+  shown_delay l =
+      let below = shown_below l in
+      let delay = ap (λ s. s.delay_weight) (stamp_there t f f refl below ∙ sym shown) in
+      omega (arith, (stamp_kept t f f refl below).2, delay)
+
+  pub entry_shown :
+      (p d : ℕ) → p ≡ t.lookahead → d ≡ (stamp_at ss f).delay_weight → (stamp_at ss f).due ≡ true
+      → (stamp_at ss f).tag ≤ t.time + p * 720720
+      → Some (record { finish = (stamp_at ss f).tag + 720720 / d; flow = f }) ≡ entry_of (clock_of t) f
+  entry_shown p d w e due le =
+      ap (λ n. Some (record { finish = (stamp_at ss f).tag + 720720 / n; flow = f })) e
+      ∙ (entry_due t.time t.lookahead f (stamp_at ss f) due (omega (arith, w, le)) ∙ ap (entry_if t.time t.lookahead f) shown)
+
+  pub none_shown_idle : (stamp_at ss f).due ≡ false → None ≡ entry_of (clock_of t) f
+  none_shown_idle idle = entry_idle t.time t.lookahead f (stamp_at ss f) idle ∙ ap (entry_if t.time t.lookahead f) shown
+
+  pub none_shown_late : (p : ℕ) → p ≡ t.lookahead → t.time + p * 720720 < (stamp_at ss f).tag → None ≡ entry_of (clock_of t) f
+  none_shown_late p w late =
+      entry_late t.time t.lookahead f (stamp_at ss f) (omega (arith, w, late)) ∙ ap (entry_if t.time t.lookahead f) shown
 
 -- The flow f that a turn marks. (i is f, as a number of another width.)
 module _ (t : Tags) (f i : ℕ) (q : i ≡ f) (e : Some f ≡ marked (clock_of t)) where

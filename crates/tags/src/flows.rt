@@ -14,7 +14,7 @@ const LATEST: u32 = 1_000_000_000;
 
 impl Tags {
     /// The stamp of each flow.
-    fn flows(&self) -> &[Stamp]
+    pub(crate) fn flows(&self) -> &[Stamp]
         ensures { result.now ≡ (clock_of self.now).stamps }
     {
         &self.stamps[..usize::from(self.count)]

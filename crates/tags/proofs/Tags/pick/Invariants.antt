@@ -1,7 +1,7 @@
 use Rattle.std.proofs.Common.{◌≡◌, take}
 use Rattle.tag_rule.specs.Rule.{entries}
 use Rattle.tags.specs.View.{clock_of}
-use Rattle.tags.proofs.Tags.eligible_entries.Given as goal
+use Rattle.tags.proofs.Tags.pick.Given as goal
 
 -- the entries of the flows so far are found
 abbrev pub invariant-loop-flow : goal.invariant-loop-flow
