@@ -6,7 +6,7 @@ use Rattle.std.proofs.lemmas.Bool.{le-leb, lt-leb}
 use Rattle.reference.specs.Meaning.{whole}
 use Rattle.std.proofs.lemmas.Grind.{common_steps}
 use Rattle.std.proofs.lemmas.List.MinMax.{IsFirstBest-from_best_of, IsFirstBest-unique}
-use Rattle.std.proofs.lemmas.List.{length-map, take_more, get_or_default, ext_get_or, get_or-map, nil_from_length}
+use Rattle.std.proofs.lemmas.List.{take_more, get_or_default, nil_from_length}
 use Rattle.tag_rule.specs.declared.stamp.Stamp.{Stamp}
 use Rattle.tag_rule.specs.declared.entry.Entry.{Entry}
 use Rattle.order.specs.Least.{LeastAt}

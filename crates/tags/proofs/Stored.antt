@@ -7,13 +7,14 @@ use Rattle.std.proofs.lemmas.List.{get_or-map, get_or-set_same, get_or-set_other
 use Rattle.std.proofs.lemmas.Bool.{and_parts, leb-true, ltb-true, eqb-true}
 use Rattle.reference.specs.Calls.Call.{turning, entering, leaving}
 use Rattle.reference.specs.Flows.{sum}
+use Rattle.reference.specs.Meaning.{whole}
 use Rattle.reference.proofs.Fields.{part_map}
 use Rattle.reference.proofs.Fronts.{front_each, front_length}
 use Rattle.reference.proofs.Steps.{take_set}
 use Rattle.reference.proofs.Totals.{sum_kept, sum_map}
 use Rattle.tag_rule.specs.declared.stamp.Stamp.{Stamp}
 use Rattle.tags.specs.declared.Tags.{Tags}
-use Rattle.tag_rule.specs.Rule.{Clock, no_stamp, stamp_at, eligible, marked, charged, charge, entered_at, departed, lowest, time_after}
+use Rattle.tag_rule.specs.Rule.{no_stamp, stamp_at, eligible, marked, charged, charge, entered_at, departed, lowest, time_after}
 use Rattle.tag_rule.specs.Tags.{Ahead, is_due, with_lookahead, clock, seen, held_after, weight_of, advance, later, settled, switching, Kept, KeptBelow}
 use Rattle.tags.specs.Base.{moved_on, stays}
 use Rattle.tags.specs.View.{clock_of, tags_held, entry_of}
@@ -204,7 +205,7 @@ module _ (t : Tags) (f i : ℕ) (q : i ≡ f) (l : f < t.count) where
       ∙ same_step (clock_of t) (held_ahead t) (leaving f))
 
 -- The stamps ss that the slice of the flows shows, and the entry of flow f: it has one if it is due and not past the lookahead.
--- (p and d are the lookahead and the delay weight, as numbers of another width.)
+-- (p is the lookahead, as a number of another width.)
 module _ (t : Tags) (ss : List Stamp) (f : ℕ) (same : ss ≡ (clock_of t).stamps) where
   shown : stamp_at ss f ≡ stamp_at (clock_of t).stamps f
   shown = ap (λ zs. stamp_at zs f) same
@@ -212,18 +213,19 @@ module _ (t : Tags) (ss : List Stamp) (f : ℕ) (same : ss ≡ (clock_of t).stam
   pub shown_below : f < length ss → f < t.count
   shown_below l = omega (arith, l, ap length same, front_length t.stamps t.count t.sized t.few)
 
-  pub shown_delay : f < length ss → 1 ≤ (stamp_at ss f).delay_weight
+  pub shown_delay : f < length ss → (1 ≤ (stamp_at ss f).delay_weight) × ((stamp_at ss f).delay_weight ≤ 16)
   shown_delay l =
       let below = shown_below l in
       let delay = ap (λ s. s.delay_weight) (stamp_there t f f refl below ∙ sym shown) in
-      omega (arith, (stamp_kept t f f refl below).2, delay)
+      let kept = stamp_kept t f f refl below in
+      (omega (arith, kept.2, delay), omega (arith, kept.3, delay))
 
   pub entry_shown :
-      (p d : ℕ) → p ≡ t.lookahead → d ≡ (stamp_at ss f).delay_weight → (stamp_at ss f).due ≡ true
+      (p n : ℕ) → p ≡ t.lookahead → n ≡ whole / (stamp_at ss f).delay_weight → (stamp_at ss f).due ≡ true
       → (stamp_at ss f).tag ≤ t.time + p * 720720
-      → Some (record { finish = (stamp_at ss f).tag + 720720 / d; flow = f }) ≡ entry_of (clock_of t) f
-  entry_shown p d w e due le =
-      ap (λ n. Some (record { finish = (stamp_at ss f).tag + 720720 / n; flow = f })) e
+      → Some (record { finish = (stamp_at ss f).tag + n; flow = f }) ≡ entry_of (clock_of t) f
+  entry_shown p n w e due le =
+      ap (λ m. Some (record { finish = (stamp_at ss f).tag + m; flow = f })) e
       ∙ (entry_due t.time t.lookahead f (stamp_at ss f) due (omega (arith, w, le)) ∙ ap (entry_if t.time t.lookahead f) shown)
 
   pub none_shown_idle : (stamp_at ss f).due ≡ false → None ≡ entry_of (clock_of t) f
@@ -253,13 +255,12 @@ module _ (t : Tags) (f i : ℕ) (q : i ≡ f) (e : Some f ≡ marked (clock_of t
   pub pick_ahead : Ahead t.time (stamp_at t.stamps i)
   pick_ahead = subst (Ahead t.time) (sym pick_at) (All-get_or (Ahead t.time) (clock_of t).stamps f no_stamp picked.0 (held_ahead t))
 
-  -- what charging it leaves. (w is the weight, as a number of another width.)
+  -- what charging it leaves
   pub pick_charged :
-      (w : ℕ) → w ≡ (stamp_at t.stamps i).weight
-      → seen (moved_on (clock_of t) (slice_set (clock_of t).stamps f (retag (stamp_at t.stamps i) ((stamp_at t.stamps i).tag + 720720 / w))))
+      (n : ℕ) → n ≡ whole / (stamp_at t.stamps i).weight
+      → seen (moved_on (clock_of t) (slice_set (clock_of t).stamps f (retag (stamp_at t.stamps i) ((stamp_at t.stamps i).tag + n))))
       ≡ held_after (tags_held t) turning
-  pick_charged w d =
-      let s = stamp_at t.stamps i in
-      ap (λ n. seen (moved_on (clock_of t) (slice_set (clock_of t).stamps f (retag (stamp_at t.stamps i) ((stamp_at t.stamps i).tag + 720720 / n))))) d
+  pick_charged n d =
+      ap (λ m. seen (moved_on (clock_of t) (slice_set (clock_of t).stamps f (retag (stamp_at t.stamps i) ((stamp_at t.stamps i).tag + m))))) d
       ∙ (ap (λ y. seen (moved_on (clock_of t) (slice_set (clock_of t).stamps f (charged y)))) pick_at
       ∙ (ap (λ o. seen (moved_on (clock_of t) (charge (clock_of t).stamps o))) e ∙ same_step (clock_of t) (held_ahead t) turning))

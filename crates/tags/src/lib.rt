@@ -14,6 +14,7 @@ use tag_rule::stamp::Stamp;
 mod calls;
 mod flows;
 mod of;
+mod parts;
 mod pick;
 mod time;
 

@@ -5,13 +5,11 @@ ghost use Rattle.tag_rule.specs.Tags.{held_after};
 ghost use Rattle.tags.specs.View.{clock_of, tags_held};
 
 use crate::Tags;
+use crate::parts::{WHOLE, part};
 use arrayvec::ArrayVec;
 use order::least;
 use tag_rule::entry::Entry;
 use tag_rule::stamp::Stamp;
-
-/// The parts that make one whole: the least common multiple of 1 to 16.
-const WHOLE: u32 = 720_720;
 
 impl Tags {
     /// The flow that a turn marks.
@@ -25,7 +23,7 @@ impl Tags {
         for (flow, stamp) in self.flows().iter().enumerate() {
             if stamp.due && stamp.tag <= latest {
                 found.push(Entry {
-                    finish: stamp.tag + WHOLE / u32::from(stamp.delay_weight),
+                    finish: stamp.tag + part(stamp.delay_weight),
                     flow: flow as u8,
                 });
             }
@@ -40,7 +38,7 @@ impl Tags {
         ensures { tags_held self.new ≡ held_after (tags_held self.old) turning }
     {
         let stamp = self.stamps[usize::from(flow)];
-        let tag = stamp.tag + WHOLE / u32::from(stamp.weight);
+        let tag = stamp.tag + part(stamp.weight);
         self.put(flow, Stamp { tag, ..stamp });
     }
 }

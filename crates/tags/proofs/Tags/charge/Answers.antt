@@ -6,8 +6,10 @@ use Rattle.tags.proofs.Tags.charge.Goals as goal
 pub bounds-self-from : goal.bounds-self-from
 bounds-self-from c = omega (arith, c.from.ensures, pick_below c.args.self.now _ _ c.from.ensures c.requires, c.args.self.now.few)
 
-pub nonzero_div-tag : goal.nonzero_div-tag
-nonzero_div-tag c = omega (arith, c.from-2.ensures, (pick_kept c.args.self.now _ _ c.from.ensures c.requires).0)
+pub part-requires : goal.part-requires
+part-requires c =
+    let k = pick_kept c.args.self.now _ _ c.from.ensures c.requires in
+    record { at_least_one = k.0; at_most_sixteen = k.1 }
 
 pub overflow_add-tag : goal.overflow_add-tag
 overflow_add-tag c =
@@ -24,9 +26,9 @@ put-requires c =
     record {
       inside = pick_below t _ _ from c.requires;
       same_weight = ap weight_of (pick_at t _ _ from c.requires);
-      kept = (k.0, k.1, k.2, k.3, rw c.from-2.ensures (omega (arith, tag)));
+      kept = (k.0, k.1, k.2, k.3, rw c.part.ensures (omega (arith, tag)));
       ahead = λ d. omega (arith, ahead d);
     }
 
 pub returns : goal.returns
-returns c = c.put.ensures ∙ pick_charged c.args.self.now _ _ c.from.ensures c.requires _ c.from-2.ensures
+returns c = c.put.ensures ∙ pick_charged c.args.self.now _ _ c.from.ensures c.requires _ c.part.ensures

@@ -15,10 +15,10 @@ use Rattle.tags.proofs.Tags.pick.Goals.{
   else-stamp-via-else-stamp,
 }
 
-pub nonzero_div-from : goal.nonzero_div-from
-nonzero_div-from c =
+pub part-requires : goal.part-requires
+part-requires c =
     let delay = shown_delay c.args.self.now _ _ c.flows-stamp-items.ensures c.loop-flow-test.true in
-    omega (arith, delay, c.from-then-stamp-latest.ensures)
+    record { at_least_one = delay.0; at_most_sixteen = delay.1 }
 
 pub push-requires : goal.push-requires
 push-requires c =
@@ -42,7 +42,7 @@ loop-flow-preserved c =
     elim c.if-stamp.branch [
       | then-stamp+then-stamp-latest w ↦
           more _ (Some _)
-          (entry_shown t _ _ same _ _ c.from.ensures w.from-then-stamp-latest.ensures w.if-stamp.true w.if-stamp-latest.true)
+          (entry_shown t _ _ same _ _ c.from.ensures w.part.ensures w.if-stamp.true w.if-stamp-latest.true)
           (ap (λ v. v.items) w.found-is ∙ w.push.ensures.items)
       | else-stamp w ↦
           elim w.else-stamp.branch [
