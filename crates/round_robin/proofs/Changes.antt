@@ -1,10 +1,12 @@
 -- What the calls change: a place of the array, or each of them.
-use Rattle.std.specs.Prelude.{◌≡◌, ℕ, ◌+◌, ◌%◌, ◌<◌, ◌≤◌, Bool, true, List, ◌++◌, map, length, take, drop, set, Some, nat_lt, slice_set}
+use Rattle.std.specs.Prelude.{◌≡◌, ℕ, ◌+◌, ◌*◌, ◌%◌, ◌<◌, ◌≤◌, ◌≢◌, Bool, true, List, ◌++◌, map, length, take, drop, set, None, Some, Option, IfSome, nat_lt, slice_set}
 use Rattle.std.proofs.Common.{sym, ap, subst, ◌∙◌, ⊎_elim, arith}
+use Rattle.std.proofs.Math.Nat.{mod-eq_of_lt}
+use Rattle.std.proofs.lemmas.Nat.{mod-mul-add}
 use Rattle.std.proofs.lemmas.List.{get_or-map, take-map, get_or-set_same, get_or-set_other, take_all, drop_all, append-nil}
-use Rattle.std.proofs.lemmas.Bool.{cases_eq, and_parts, ltb-true}
-use Rattle.reference.specs.Flows.{sum, around}
-use Rattle.reference.proofs.Searches.{around_passes}
+use Rattle.std.proofs.lemmas.Bool.{cases_Bool, cases_eq, both_ways, and_parts, ltb-true}
+use Rattle.reference.specs.Flows.{sum, some, around}
+use Rattle.reference.proofs.Searches.{around_passes, some_none}
 use Rattle.reference.proofs.Steps.{take_set}
 use Rattle.reference.proofs.Totals.{sum_kept, sum_map}
 use Rattle.round_robin_rule.specs.declared.quota.Quota.{Quota}
@@ -51,6 +53,19 @@ module _ (b : Bool) (r : RoundRobin) (f : ℕ) where
 pub found_below : (p : ℕ) (ms : List Quota) (f : ℕ) → Some f ≡ around ready p ms → f < length ms
 found_below p ms f e = (around_passes ready no_quota p ms f (sym e)).0
 
+pub found_inside :
+    (r : RoundRobin) (o : Option ℕ) → o ≡ around ready r.pointer (take r.count r.quotas) → IfSome o (λ f. f < r.count)
+found_inside r None e = tt
+found_inside r (Some f) e = omega (arith, held_length r, found_below r.pointer (take r.count r.quotas) f e)
+
+pub found_some : (p : ℕ) (ms : List Quota) (f : ℕ) → Some f ≡ around ready p ms → some ready ms ≡ true
+found_some p ms f e =
+    let found = around_passes ready no_quota p ms f (sym e) in
+    ⊎_elim
+    (λ a. a)
+    (λ n. absurd (both_ways _ (some_none ready no_quota ms n f found.0) found.1))
+    (cases_Bool (some ready ms))
+
 -- The beginning of a round, which resets every place of the array.
 
 module _ (r : RoundRobin) where
@@ -95,10 +110,20 @@ module _ (r : RoundRobin) (f : ℕ) (e : Some f ≡ around ready r.pointer (take
   pub mark_kept : Kept (spent (quota_at r.quotas f))
   mark_kept = let kept = r.kept f mark_inside in (kept.0, kept.1, omega (arith, mark_used))
 
+  -- the following flow, around
+  pub next_around : f + 1 ≡ r.count → 0 ≡ (f + 1) % r.count
+  next_around q =
+      let one : 1 * r.count + 0 ≡ f + 1 = omega arith in
+      sym (mod-mul-add 1 r.count 0 r.some) ∙ ap (λ n. n % r.count) one
+
+  pub next_above : f + 1 ≢ r.count → f + 1 ≡ (f + 1) % r.count
+  next_above n = let l : f + 1 < r.count = omega (arith, mark_inside) in sym (mod-eq_of_lt l)
+
   pub mark_held :
-      pointing_at ((f + 1) % r.count) (take r.count (slice_set r.quotas f (spent (quota_at r.quotas f))))
+      (i : ℕ) → i ≡ (f + 1) % r.count
+      → pointing_at i (take r.count (slice_set r.quotas f (spent (quota_at r.quotas f))))
       ≡ after_mark (take r.count r.quotas) r.pointer (Some f)
-  mark_held =
+  mark_held i q =
       let front = take_set r.count r.quotas f (spent (quota_at r.quotas f)) in
       let at = held_at r f mark_inside in
       let long = held_length r in

@@ -60,10 +60,10 @@ impl Reference for RoundRobin {
     }
 
     fn turn(&mut self) -> Option<u8> {
-        self.renew();
-        let flow = self.next_ready()?;
+        let flow = self.choose()?;
         self.quotas[usize::from(flow)].used += 1;
-        self.pointer = (flow + 1) % self.count;
+        // The following flow, around: a test, where a remainder would cost a division.
+        self.pointer = if flow + 1 == self.count { 0 } else { flow + 1 };
         Some(flow)
     }
 }

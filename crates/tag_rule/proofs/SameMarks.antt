@@ -1,5 +1,5 @@
 -- Start tags less virtual time mark as start tags and virtual time do, for ever.
-use Rattle.std.proofs.Common.{◌≡◌, ℕ, ◌+◌, ◌-◌, ◌*◌, ◌/◌, ◌<◌, ◌≤◌, max, Bool, true, false, cond, ◌&&◌, leb, List, [], ◌∷◌, map, length, set, Some, None, Option, sym, refl, ap, ◌∙◌, subst, ⊎_elim, arith}
+use Rattle.std.proofs.Common.{◌≡◌, ℕ, ◌+◌, ◌-◌, ◌*◌, ◌/◌, ◌<◌, ◌≤◌, ◌≢◌, max, Bool, true, false, cond, ◌&&◌, leb, List, [], ◌∷◌, map, length, set, Some, None, Option, sym, refl, ap, ◌∙◌, subst, ⊎_elim, arith}
 use lib.ListN.{length-map}
 use Rattle.std.specs.List.{best_of, AllByRecursion}
 use Rattle.std.proofs.ByRecursion.{All-get_or, All-set, All-from_get_or}
@@ -33,7 +33,7 @@ use Rattle.tag_rule.specs.Rule.{
   clock_after_all,
   rule_marks,
 }
-use Rattle.tag_rule.specs.Tags.{with_lookahead, clock, later, seen, held_after, advance, settled, tags, Follows}
+use Rattle.tag_rule.specs.Tags.{with_lookahead, clock, later, seen, held_after, advance, settled, Ahead, tags, Follows}
 use Rattle.tag_rule.proofs.FirstToFinish.{first_to_finish}
 use Rattle.tag_rule.proofs.Picks.{picked_eligible}
 use Rattle.tag_rule.proofs.VirtualTime.{fallen, lowest_later, lowest_le, lowest_at}
@@ -41,10 +41,6 @@ use Rattle.tag_rule.proofs.VirtualTime.{fallen, lowest_later, lowest_le, lowest_
 -- a stamp with another tag
 abbrev retag : Stamp → ℕ → Stamp
 retag s t = record { weight = s.weight; delay_weight = s.delay_weight; tag = t; due = s.due }
-
--- no due flow's start tag is behind virtual time
-abbrev Ahead : ℕ → Stamp → Type 0
-Ahead v s = s.due ≡ true → v ≤ s.tag
 
 -- The search, from virtual time v.
 abbrev early : ℕ → Entry → Entry
@@ -84,7 +80,7 @@ soonest_early : (v : ℕ) (es : List Entry) → soonest (map (early v) es) ≡ s
 soonest_early v [] = refl
 soonest_early v (e ∷ es) = ap (λ x. Some x.flow) (best_early v e es)
 
-same_mark : (c : Clock) → AllByRecursion (Ahead c.time) c.stamps → marked c ≡ marked (clock (seen c))
+pub same_mark : (c : Clock) → AllByRecursion (Ahead c.time) c.stamps → marked c ≡ marked (clock (seen c))
 same_mark c a =
     ap soonest (entries_is c.time c.lookahead 0 c.stamps a)
     ∙ soonest_early c.time (entries 0 c.lookahead 0 (map (later c.time) c.stamps))
@@ -105,15 +101,43 @@ time_is v ss a = ap (λ o. v + time_after 0 o) (lowest_later v ss) ∙ split (lo
         let l : v ≤ (stamp_at ss k.0).tag = All-get_or (Ahead v) ss k.0 no_stamp k.1 a k.2 in
         omega (arith, l, k.3)
 
-seen_later : (v : ℕ) (ss : List Stamp) → AllByRecursion (Ahead v) ss → map (later (time_after v (lowest ss))) ss ≡ settled (map (later v) ss)
+pub seen_later : (v : ℕ) (ss : List Stamp) → AllByRecursion (Ahead v) ss → map (later (time_after v (lowest ss))) ss ≡ settled (map (later v) ss)
 seen_later v ss a = ap (λ t. map (later t) ss) (sym (time_is v ss a)) ∙ sym (later_later v (advance (map (later v) ss)) ss)
 
-call_ahead : (c : Clock) (x : Call) → AllByRecursion (Ahead (clock_after c x).time) (stamps_after c x)
-call_ahead c x =
-    All-from_get_or (Ahead (clock_after c x).time) (stamps_after c x) no_stamp
+-- where virtual time v has moved on, no due flow is behind it
+moved_ahead : (v : ℕ) (ss : List Stamp) → AllByRecursion (Ahead (time_after v (lowest ss))) ss
+moved_ahead v ss =
+    All-from_get_or (Ahead (time_after v (lowest ss))) ss no_stamp
     (λ k l d.
-    let m = lowest_le (stamps_after c x) k l d in
-    subst (λ o. time_after c.time o ≤ (stamp_at (stamps_after c x) k).tag) (sym m.1) m.2)
+    let m = lowest_le ss k l d in
+    subst (λ o. time_after v o ≤ (stamp_at ss k).tag) (sym m.1) m.2)
+
+pub time_ahead : (v : ℕ) (ss : List Stamp) → time_after v (lowest ss) ≡ v → AllByRecursion (Ahead v) ss
+time_ahead v ss e = subst (λ d. AllByRecursion (Ahead d) ss) e (moved_ahead v ss)
+
+-- where a due flow is at virtual time, it stays
+pub time_stays :
+    (v : ℕ) (ss : List Stamp) (k : ℕ) → AllByRecursion (Ahead v) ss → k < length ss → (stamp_at ss k).due ≡ true
+    → (stamp_at ss k).tag ≡ v → time_after v (lowest ss) ≡ v
+time_stays v ss k a l due at =
+    let m = lowest_le ss k l due in
+    let j = lowest_at ss m.0 m.1 in
+    let ahead : v ≤ (stamp_at ss j.0).tag = All-get_or (Ahead v) ss j.0 no_stamp j.1 a j.2 in
+    ap (time_after v) m.1 ∙ omega (arith, m.2, at, ahead, j.3)
+
+-- where a due flow f is past virtual time, another one is at it
+pub other_at_time :
+    (v : ℕ) (ss : List Stamp) (f : ℕ) → time_after v (lowest ss) ≡ v → f < length ss → (stamp_at ss f).due ≡ true
+    → v < (stamp_at ss f).tag
+    → (k : ℕ) × (k ≢ f) × (k < length ss) × ((stamp_at ss k).due ≡ true) × ((stamp_at ss k).tag ≡ v)
+other_at_time v ss f e l due past =
+    let m = lowest_le ss f l due in
+    let j = lowest_at ss m.0 m.1 in
+    let at : m.0 ≡ v = ap (time_after v) (sym m.1) ∙ e in
+    (j.0, λ q. omega (arith, past, at, j.3, ap (λ k. (stamp_at ss k).tag) q), j.1, j.2, omega (arith, j.3, at))
+
+call_ahead : (c : Clock) (x : Call) → AllByRecursion (Ahead (clock_after c x).time) (stamps_after c x)
+call_ahead c x = moved_ahead c.time (stamps_after c x)
 
 -- A change at flow f, seen from virtual time v.
 module _ (v : ℕ) (ss : List Stamp) (f : ℕ) (y : Stamp) where
@@ -181,7 +205,7 @@ module _ (c : Clock) (a : AllByRecursion (Ahead c.time) c.stamps) where
       seen_set c.time c.stamps f (entered_at c.time s) (entered_at 0) (ap (retag (entered_at 0 s)) e)
   seen_call (leaving f) = seen_set c.time c.stamps f (departed (stamp_at c.stamps f)) departed refl
 
-  same_step : (x : Call) → seen (clock_after c x) ≡ held_after (seen c) x
+  pub same_step : (x : Call) → seen (clock_after c x) ≡ held_after (seen c) x
   same_step x =
       ap (with_lookahead c.lookahead)
       (seen_later c.time (stamps_after c x) (stamps_ahead x) ∙ ap settled (seen_call x))

@@ -28,6 +28,19 @@ settled_again ss = ap (time_after 0) (lowest_later (advance ss) ss) ∙ none (lo
     none None = refl
     none (Some n) = omega arith
 
+-- seen from where it is, virtual time is 0
+pub seen_on_time : (v : ℕ) (ss : List Stamp) → time_after v (lowest ss) ≡ v → advance (map (later v) ss) ≡ 0
+seen_on_time v ss e = ap (time_after 0) (lowest_later v ss) ∙ none (lowest ss) e
+  where
+    none : (o : Option ℕ) → time_after v o ≡ v → time_after 0 (fallen v o) ≡ 0
+    none None q = refl
+    none (Some n) q = omega arith
+
+-- moved on again, virtual time stays
+pub time_again : (v : ℕ) (o : Option ℕ) → time_after (time_after v o) o ≡ time_after v o
+time_again v None = refl
+time_again v (Some t) = refl
+
 -- no due flow's tag is below the lowest
 pub lowest_le : (ss : List Stamp) (k : ℕ) → k < length ss → (stamp_at ss k).due ≡ true → (m : ℕ) × (lowest ss ≡ Some m) × (m ≤ (stamp_at ss k).tag)
 lowest_le [] k l e = absurd (omega arith)

@@ -1,6 +1,6 @@
 -- What tags hold, and what they mean. Only start tags less virtual time matter (0 for one below it): so just these are
 -- held, and they stay bounded.
-use Rattle.std.specs.Prelude.{◌≡◌, ℕ, ◌+◌, ◌-◌, ◌*◌, ◌/◌, ◌<◌, ◌≤◌, Bool, cond, List, map, length, Some, None, Option, nat_lt}
+use Rattle.std.specs.Prelude.{◌≡◌, ℕ, ◌+◌, ◌-◌, ◌*◌, ◌/◌, ◌<◌, ◌≤◌, Bool, true, cond, List, map, length, Some, None, Option, nat_lt}
 use Rattle.std.specs.List.{AllByRecursion}
 use Rattle.reference.specs.Calls.{Call, marks_of}
 use Rattle.reference.specs.Calls.Call.{turning, entering, leaving}
@@ -24,6 +24,10 @@ clock h = record { stamps = h.stamps; time = 0; lookahead = h.lookahead }
 -- a stamp as it is seen from virtual time d
 abbrev pub later : ℕ → Stamp → Stamp
 later d s = record { weight = s.weight; delay_weight = s.delay_weight; tag = s.tag - d; due = s.due }
+
+-- a due flow's start tag is not behind virtual time
+abbrev pub Ahead : ℕ → Stamp → Type 0
+Ahead v s = s.due ≡ true → v ≤ s.tag
 
 -- what is held of a clock
 abbrev pub seen : Clock → Tagged

@@ -10,7 +10,7 @@ use Rattle.table.specs.declared.Table.{Table}
 use Rattle.table.proofs.InRange.{flow_lines_length, weight_in_range, delay_weight_in_range}
 use Rattle.tag_rule.specs.declared.stamp.Stamp.{Stamp}
 use Rattle.tag_rule.specs.Rule.{no_stamp, stamp_at, fresh, lowest, time_after}
-use Rattle.tag_rule.specs.Tags.{with_lookahead, seen, weight_of, advance, Kept, KeptBelow}
+use Rattle.tag_rule.specs.Tags.{with_lookahead, later, seen, weight_of, advance, Kept, KeptBelow}
 use Rattle.tags.specs.View.{table_clock}
 use Rattle.tag_rule.proofs.Laws.{later_none}
 use Rattle.tags.specs.Held.{front_at}
@@ -38,11 +38,15 @@ module _ (t : Table) (n p : ℕ) (zs : List Stamp) (e : n ≡ t.flow_count) (q :
       ∙ ap (λ ss. stamp_at ss k) fresh_front
       ∙ get_or-map fresh (flow_lines t) k no_line no_stamp (omega (arith, counted))
 
-  pub fresh_kept : kind_of t ≡ Tags → KeptBelow p zs n
-  fresh_kept kind k l =
+  fresh_all_kept : kind_of t ≡ Tags → KeptBelow p zs n
+  fresh_all_kept kind k l =
       let w = weight_in_range t k (omega (arith, counted)) in
       let d = delay_weight_in_range t kind k (omega (arith, counted)) in
       subst (Kept p) (sym (fresh_flow k l)) (w.0, w.1, d.0, d.1, omega arith)
+
+  -- seen from virtual time 0
+  pub fresh_kept : kind_of t ≡ Tags → KeptBelow p (map (later 0) zs) n
+  fresh_kept kind = subst (λ ss. KeptBelow p ss n) (sym (later_none zs)) (fresh_all_kept kind)
 
   pub fresh_on_time : advance (take n zs) ≡ 0
   fresh_on_time = ap advance fresh_front ∙ ap (time_after 0) (none_due (flow_lines t))
@@ -50,7 +54,7 @@ module _ (t : Table) (n p : ℕ) (zs : List Stamp) (e : n ≡ t.flow_count) (q :
   pub fresh_summed : weights_sum (flow_lines t) ≡ sum weight_of (take n zs)
   fresh_summed = same_sum (flow_lines t) ∙ ap (sum weight_of) (sym fresh_front)
 
-  pub fresh_held : with_lookahead p (take n zs) ≡ seen (table_clock t)
+  pub fresh_held : with_lookahead p (map (later 0) (take n zs)) ≡ seen (table_clock t)
   fresh_held =
-      ap (with_lookahead p) (fresh_front ∙ sym (later_none (map fresh (flow_lines t))))
+      ap (λ ss. with_lookahead p (map (later 0) ss)) fresh_front
       ∙ ap (λ m. with_lookahead m (seen (table_clock t)).stamps) q

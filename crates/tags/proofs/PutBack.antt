@@ -18,7 +18,7 @@ use Rattle.tags.specs.declared.Tags.{Tags}
 use Rattle.tag_rule.specs.Rule.{no_stamp, stamp_at, marked}
 use Rattle.tag_rule.specs.Tags.{Tagged, with_lookahead, clock, held_after, stamp_of, weight_of, is_due, advance, settled, switching, Kept, KeptBelow, Sound, tags}
 use Rattle.tags.specs.View.{tags_held}
-use Rattle.tags.specs.Held.{front_at, held_length, held_sound}
+use Rattle.tags.specs.Held.{front_at, seen_stamps, seen_sized, held_front, held_length, held_total, held_sound}
 use Rattle.tags.proofs.Stored.{Stored}
 use Rattle.tag_rule.proofs.Laws.{flagged, switched_is, tags_lawful, picked_parts, stamp_kept, switch_past}
 
@@ -58,26 +58,28 @@ module _ (t : Tags) (x : Call) (bs ms : List Stamp) (z : length bs ≡ 16) (e : 
             front_each (ms ++ drop t.count bs) t.count l t.few (Kept t.lookahead) no_stamp
             (subst (AllByRecursion (Kept t.lookahead)) (sym front) sounds.kept);
         on_time = ap advance front ∙ sounds.on_time;
-        summed = t.summed ∙ sym numbers.total ∙ ap (sum weight_of) (sym front);
+        summed = held_total t ∙ sym numbers.total ∙ ap (sum weight_of) (sym front);
       }
 
   pub stored_holds : with_lookahead t.lookahead (take t.count (ms ++ drop t.count bs)) ≡ held_after (tags_held t) x
   stored_holds = ap (with_lookahead t.lookahead) front ∙ over_is
 
--- A flow that enters or leaves: first its due is set in the array, then virtual time settles.
+-- A flow that enters or leaves: first its due is set in the array as it is seen from virtual time, then virtual time settles.
 module _ (b : Bool) (t : Tags) (f : ℕ) where
   abbrev pub switched : List Stamp
-  switched = slice_set t.stamps f (flagged b (stamp_at t.stamps f))
+  switched = slice_set (seen_stamps t) f (flagged b (stamp_at (seen_stamps t) f))
 
   pub switched_sized : length switched ≡ 16
-  switched_sized = length-set t.stamps f (flagged b (stamp_at t.stamps f)) ∙ t.sized
+  switched_sized = length-set (seen_stamps t) f (flagged b (stamp_at (seen_stamps t) f)) ∙ seen_sized t
 
   pub switched_settled :
       f < t.count → settled (take t.count switched) ≡ (held_after (tags_held t) (switching b f)).stamps
   switched_settled l =
+      let array = seen_stamps t in
       ap settled
-      (take_set t.count t.stamps f (flagged b (stamp_at t.stamps f))
-      ∙ ap (λ s. slice_set (take t.count t.stamps) f (flagged b s)) (sym (front_at t.stamps t.count f l)))
+      (take_set t.count array f (flagged b (stamp_at array f))
+      ∙ (ap (λ s. slice_set (take t.count (seen_stamps t)) f (flagged b s)) (sym (front_at array t.count f l))
+      ∙ ap (λ ss. slice_set ss f (flagged b (stamp_at ss f))) (held_front t)))
       ∙ ap (λ h. h.stamps) (sym (switched_is b (tags_held t) f))
 
   pub switched_outside : t.count ≤ f → tags_held t ≡ held_after (tags_held t) (switching b f)

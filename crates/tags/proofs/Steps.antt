@@ -1,25 +1,19 @@
 -- The entries of the stamps, one stamp after another; the least of them; and the lowest tag as the minimum of a list.
-use Rattle.std.proofs.Common.{◌≡◌, ℕ, ◌+◌, ◌<◌, ◌≤◌, min, Bool, true, false, cond, List, [], ◌∷◌, ◌++◌, map, length, length-take-le, get_or, take, Some, None, Option, sym, refl, ap, ◌∙◌, arith}
+use Rattle.std.proofs.Common.{◌≡◌, ℕ, ◌+◌, ◌*◌, ◌<◌, ◌≤◌, min, Bool, true, false, cond, ◌&&◌, nat_le, List, [], ◌∷◌, ◌++◌, map, length, length-take-le, get_or, take, Some, None, Option, sym, refl, ap, ◌∙◌, arith}
 use Rattle.std.specs.List.{filter, reduce, fold}
 use Rattle.std.specs.Option.{option_map, option_to_list, unwrap_or}
+use Rattle.std.proofs.lemmas.Bool.{le-leb, lt-leb}
+use Rattle.reference.specs.Meaning.{whole}
 use Rattle.std.proofs.lemmas.Grind.{common_steps}
 use Rattle.std.proofs.lemmas.List.MinMax.{IsFirstBest-from_best_of, IsFirstBest-unique}
-use Rattle.std.proofs.lemmas.List.{length-map, take_more, get_or_default, ext_get_or, get_or-map, nil_from_length}
+use Rattle.std.proofs.lemmas.List.{take_more, get_or_default, nil_from_length}
 use Rattle.tag_rule.specs.declared.stamp.Stamp.{Stamp}
 use Rattle.tag_rule.specs.declared.entry.Entry.{Entry}
 use Rattle.order.specs.Least.{LeastAt}
 use Rattle.tag_rule.specs.Ranks.{sooner_ranks}
-use Rattle.tag_rule.specs.Rule.{no_stamp, stamp_at, eligible, finish_tag, lower, lowest, time_after, entries, sooner, soonest}
-use Rattle.tag_rule.specs.Tags.{with_lookahead, is_due}
+use Rattle.tag_rule.specs.Rule.{Clock, no_stamp, stamp_at, eligible, finish_tag, lower, lowest, time_after, entries, sooner, soonest}
+use Rattle.tag_rule.specs.Tags.{is_due}
 use Rattle.tags.specs.View.{entry_of}
-
--- the list ys of what f makes of each of xs
-pub mapped :
-    {A B : Type 0} (f : A → B) (xs : List A) (ys : List B) (d : A) (e : B)
-    → length ys ≡ length xs → ((k : ℕ) → k < length xs → get_or ys k e ≡ f (get_or xs k d)) → ys ≡ map f xs
-mapped f xs ys d e l same =
-    ext_get_or e ys (map f xs) (l ∙ sym (length-map xs f))
-    (λ k h. same k (omega arith) ∙ sym (get_or-map f xs k d e (omega arith)))
 
 abbrev pub tag_of : Stamp → ℕ
 tag_of s = s.tag
@@ -37,10 +31,10 @@ pub lowest_is : (ss : List Stamp) → reduce min (map tag_of (filter is_due ss))
 lowest_is [] = refl
 lowest_is (s ∷ ss) = let more = lowest_is ss in let here = lower_fold s.tag (map tag_of (filter is_due ss)) in grind arith
 
-pub time_is : (o p : Option ℕ) → o ≡ p → unwrap_or o 0 ≡ time_after 0 p
-time_is o p e = ap (λ r. unwrap_or r 0) e ∙ same p
+pub time_is : (v : ℕ) (o p : Option ℕ) → o ≡ p → unwrap_or o v ≡ time_after v p
+time_is v o p e = ap (λ r. unwrap_or r v) e ∙ same p
   where
-    same : (r : Option ℕ) → unwrap_or r 0 ≡ time_after 0 r
+    same : (r : Option ℕ) → unwrap_or r v ≡ time_after v r
     same None = refl
     same (Some t) = refl
 
@@ -56,30 +50,54 @@ one_or_none : (b : Bool) (e : Entry) → cond b (e ∷ []) [] ≡ option_to_list
 one_or_none true e = refl
 one_or_none false e = refl
 
+-- the entry of flow f with the stamp s, if it is eligible
+abbrev pub entry_if : ℕ → ℕ → ℕ → Stamp → Option Entry
+entry_if v p f s = cond (eligible v p s) (Some (record { finish = finish_tag s; flow = f })) None
+
+pub entry_due :
+    (v p f : ℕ) (s : Stamp) → s.due ≡ true → s.tag ≤ v + p * whole
+    → Some (record { finish = finish_tag s; flow = f }) ≡ entry_if v p f s
+entry_due v p f s due le = let on : nat_le s.tag (v + p * whole) ≡ true = le-leb _ _ le in rw (due, on)
+
+pub entry_idle : (v p f : ℕ) (s : Stamp) → s.due ≡ false → None ≡ entry_if v p f s
+entry_idle v p f s idle = rw idle
+
+pub entry_late : (v p f : ℕ) (s : Stamp) → v + p * whole < s.tag → None ≡ entry_if v p f s
+entry_late v p f s late = let off = too_late s.due in rw off
+  where
+    too_late : (b : Bool) → (b && nat_le s.tag (v + p * whole)) ≡ false
+    too_late true = lt-leb _ _ late
+    too_late false = refl
+
 -- one more stamp, with its entry if it has one
 entries_more :
-    (p : ℕ) (ss : List Stamp) (i : ℕ) → i < length ss
-    → entries 0 p 0 (take (i + 1) ss) ≡ entries 0 p 0 (take i ss) ++ option_to_list (entry_of (with_lookahead p ss) i)
-entries_more p ss i l =
-    let long : 0 + length (take i ss) ≡ i = omega (arith, length-take-le i ss (omega arith)) in
-    ap (entries 0 p 0) (take_more ss i no_stamp l)
-    ∙ (entries_append 0 p 0 (take i ss) (stamp_at ss i ∷ [])
-    ∙ ap (λ es. entries 0 p 0 (take i ss) ++ es) (ap (λ n. entries 0 p n (stamp_at ss i ∷ [])) long
-    ∙ one_or_none (eligible 0 p (stamp_at ss i)) (record { finish = finish_tag (stamp_at ss i); flow = i })))
+    (c : Clock) (i : ℕ) → i < length c.stamps
+    → entries c.time c.lookahead 0 (take (i + 1) c.stamps)
+    ≡ entries c.time c.lookahead 0 (take i c.stamps) ++ option_to_list (entry_of c i)
+entries_more c i l =
+    let v = c.time in
+    let p = c.lookahead in
+    let ss = c.stamps in
+    let long : 0 + length (take i c.stamps) ≡ i = omega (arith, length-take-le i ss (omega arith)) in
+    ap (entries v p 0) (take_more ss i no_stamp l)
+    ∙ (entries_append v p 0 (take i ss) (stamp_at ss i ∷ [])
+    ∙ ap (λ es. entries v p 0 (take i ss) ++ es) (ap (λ n. entries v p n (stamp_at ss i ∷ [])) long
+    ∙ one_or_none (eligible v p (stamp_at ss i)) (record { finish = finish_tag (stamp_at ss i); flow = i })))
 
 -- the entries xs of the first i stamps, and what is made of them at one more
-module _ (p : ℕ) (ss : List Stamp) (i : ℕ) (xs : List Entry) (l : i < length ss) (so_far : xs ≡ entries 0 p 0 (take i ss)) where
+module _ (c : Clock) (i : ℕ) (xs : List Entry) (l : i < length c.stamps) (so_far : xs ≡ entries c.time c.lookahead 0 (take i c.stamps)) where
   pub found_few : length xs ≤ i
   found_few =
-      omega (arith, ap length so_far, entries_length 0 p 0 (take i ss), length-take-le i ss (omega arith))
+      omega
+      (arith, ap length so_far, entries_length c.time c.lookahead 0 (take i c.stamps), length-take-le i c.stamps (omega arith))
 
   pub found_more :
-      (ys : List Entry) (o : Option Entry) → o ≡ entry_of (with_lookahead p ss) i → ys ≡ xs ++ option_to_list o
-      → ys ≡ entries 0 p 0 (take (i + 1) ss)
+      (ys : List Entry) (o : Option Entry) → o ≡ entry_of c i → ys ≡ xs ++ option_to_list o
+      → ys ≡ entries c.time c.lookahead 0 (take (i + 1) c.stamps)
   found_more ys o e q =
       q
       ∙ (ap (λ es. es ++ option_to_list o) so_far
-      ∙ (ap (λ r. entries 0 p 0 (take i ss) ++ option_to_list r) e ∙ sym (entries_more p ss i l)))
+      ∙ (ap (λ r. entries c.time c.lookahead 0 (take i c.stamps) ++ option_to_list r) e ∙ sym (entries_more c i l)))
 
 -- The least entry is the soonest.
 pub least_is :

@@ -9,6 +9,7 @@ use Rattle.tags.specs.declared.Tags.{Tags}
 use Rattle.tag_rule.specs.Rule.{no_stamp, stamp_at}
 use Rattle.tag_rule.specs.Tags.{stamp_of, weight_of}
 use Rattle.tags.specs.View.{tags_held}
+use Rattle.tags.specs.Held.{held_total}
 
 module _ (t : Tags) (f : ℕ) where
   pub stamp_found :
@@ -27,4 +28,5 @@ module _ (t : Tags) (f : ℕ) where
       let found = stamp_found s e in
       let w : s.weight ≡ (stamp_at (tags_held t).stamps f).weight = ap weight_of found.1 in
       let sums = sum_split weight_of no_stamp (tags_held t).stamps f found.0 in
-      (omega (arith, t.summed, w, sums), omega (arith, t.summed, w, sums))
+      let total = held_total t in
+      (omega (arith, total, w, sums), omega (arith, total, w, sums))

@@ -8,13 +8,18 @@ use Rattle.tag_rule.specs.declared.entry.Entry.{Entry}
 use Rattle.tag_rule.specs.Rule.{Clock, stamp_at, start, eligible, finish_tag}
 use Rattle.tag_rule.specs.Tags.{Tagged, seen, Follows}
 
+-- the start tags and the virtual time of a value, counted from its base
+abbrev pub clock_of : Tags → Clock
+clock_of t = record { stamps = take t.count t.stamps; time = t.time; lookahead = t.lookahead }
+
+-- what a value holds: its start tags less virtual time, wherever its base is
 abbrev pub tags_held : Tags → Tagged
-tags_held t = record { stamps = take t.count t.stamps; lookahead = t.lookahead }
+tags_held t = seen (clock_of t)
 
 -- the entry of a flow, if it is eligible
-abbrev pub entry_of : Tagged → ℕ → Option Entry
-entry_of h f =
-    cond (eligible 0 h.lookahead (stamp_at h.stamps f)) (Some (record { finish = finish_tag (stamp_at h.stamps f); flow = f })) None
+abbrev pub entry_of : Clock → ℕ → Option Entry
+entry_of c f =
+    cond (eligible c.time c.lookahead (stamp_at c.stamps f)) (Some (record { finish = finish_tag (stamp_at c.stamps f); flow = f })) None
 
 -- the clock that a table starts
 abbrev pub table_clock : Table → Clock

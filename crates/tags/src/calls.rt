@@ -9,12 +9,18 @@ use reference::Reference;
 use tag_rule::stamp::Stamp;
 
 impl Tags {
-    /// Makes a flow due, or not due. An entering flow's tag is at least virtual time already: settling saw to it.
+    /// Makes a flow due, or not due. The start tag of one that enters is lifted to virtual time, if it is below it.
     fn switch(&mut self, flow: u8, due: bool)
         ensures { tags_held self.new ≡ held_after (tags_held self.old) (switching due flow) }
     {
-        if let Some(stamp) = self.stamp(flow) {
-            self.put(flow, Stamp { due, ..stamp });
+        if flow < self.count {
+            let stamp = self.stamps[usize::from(flow)];
+            let tag = if due {
+                stamp.tag.max(self.time)
+            } else {
+                stamp.tag
+            };
+            self.put(flow, Stamp { tag, due, ..stamp });
         }
     }
 }

@@ -15,6 +15,7 @@ impl Tags {
             Kind::RoundRobin => None,
             Kind::Tags => Some(Tags {
                 stamps: table.per_flow(),
+                time: 0,
                 count: table.flow_count(),
                 lookahead: table.lookahead(),
                 total: table.total_weight(),

@@ -1,12 +1,11 @@
 use Rattle.std.proofs.Common.{take, get_or, sym, ap, ◌∙◌, arith, rules, tests}
 use Rattle.std.proofs.lemmas.List.Edits.{map_over_more}
 use Rattle.std.proofs.lemmas.List.{get_or_default}
-use Rattle.round_robin_rule.specs.Rule.{no_quota, pointing_at, unused, is_due, ready}
-use Rattle.round_robin_rule.proofs.Rounds.{renewed_anew, renewed_none_due, renewed_some_ready}
+use Rattle.round_robin_rule.specs.Rule.{no_quota, pointing_at, unused, is_due}
+use Rattle.round_robin_rule.proofs.Rounds.{renewed_anew, renewed_none_due}
 use Rattle.round_robin.proofs.Changes.{reset_all, reset_kept, reset_front, reset_summed}
 use Rattle.reference.proofs.FirstFound.{any_some}
 use Rattle.round_robin.proofs.RoundRobin.renew.Goals as goal
-use Rattle.round_robin.proofs.RoundRobin.renew.Goals.{else-any-via-then-any+else-not-any, else-any-via-else-any}
 
 pub invariant_of-self-clause-kept : goal.invariant_of-self-clause-kept
 invariant_of-self-clause-kept c =
@@ -35,8 +34,7 @@ returns-after-loop-quota c =
     let r = c.args.self.now in
     let qs = take r.count r.quotas in
     let due = any_some is_due qs _ _ c.any.ensures.ran (cc) (λ x b q k. search (rules, tests)) in
-    let waiting = any_some ready qs _ _ c.any-then-any.ensures.ran (cc) (λ x b q k. search (rules, tests)) in
-    let anew = renewed_anew qs (sym due ∙ c.if-any.true) (sym waiting ∙ c.if-not-any.true) in
+    let anew = renewed_anew qs (sym due ∙ c.if-any.true) c.requires in
     let done = reset_all r _ _ c.loop-quota-test.false c.loop-quota.invariant.1 in
     rw done (ap (pointing_at r.pointer) (reset_front r ∙ sym anew))
 
@@ -44,11 +42,5 @@ pub returns-else-any : goal.returns-else-any
 returns-else-any c =
     let r = c.args.self.now in
     let qs = take r.count r.quotas in
-    elim c.else-any.branch [
-      | else-any-via-then-any+else-not-any w ↦
-          let waiting = any_some ready qs _ _ w.any-then-any.ensures.ran (cc) (λ x b q k. search (rules, tests)) in
-          ap (pointing_at r.pointer) (sym (renewed_some_ready qs (sym waiting ∙ w.if-not-any.false)))
-      | else-any-via-else-any w ↦
-          let due = any_some is_due qs _ _ c.any.ensures.ran (cc) (λ x b q k. search (rules, tests)) in
-          ap (pointing_at r.pointer) (sym (renewed_none_due qs (sym due ∙ w.if-any.false)))
-    ]
+    let due = any_some is_due qs _ _ c.any.ensures.ran (cc) (λ x b q k. search (rules, tests)) in
+    ap (pointing_at r.pointer) (sym (renewed_none_due qs (sym due ∙ c.if-any.false)))

@@ -23,6 +23,7 @@ invariant_of-result c =
       some = omega (arith, n, long, range.0);
       few = omega (arith, n, long, range.1);
       looks = omega (arith, p, lookahead_in_range t kind);
+      early = omega arith;
       kept = fresh_kept t _ _ _ n p made kind;
       on_time = fresh_on_time t _ _ _ n p made;
       summed = c.total_weight.ensures.exact ∙ fresh_summed t _ _ _ n p made;
@@ -32,7 +33,8 @@ pub returns-in-Tags : goal.returns-in-Tags
 returns-in-Tags c =
     let t = c.args.table.now in
     let made = AllZip-map fresh _ _ c.per_flow.ensures.made in
-    let holds = fresh_held t _ _ _ c.flow_count.ensures c.lookahead.ensures made in (
+    let holds
+    = fresh_held t _ _ _ c.flow_count.ensures c.lookahead.ensures made in (
       sym c.in-Tags.ensures,
       holds,
       subst (Follows (table_clock t)) (sym holds) (start_follows (lookahead_of t) (flow_lines t)),

@@ -2,7 +2,7 @@ use Rattle.std.proofs.Common.{◌≡◌, ◌-◌, true, ltb, length, ap, ◌∙�
 use Rattle.std.proofs.lemmas.Bool.{lt-ltb}
 use Rattle.reference.specs.Flows.{others}
 use Rattle.tag_rule.specs.Rule.{stamp_at}
-use Rattle.tag_rule.specs.Tags.{weight_of}
+use Rattle.tag_rule.specs.Tags.{later, weight_of}
 use Rattle.tags.specs.View.{tags_held}
 use Rattle.tags.specs.Held.{held_length}
 use Rattle.tags.proofs.Told.{stamp_found, others_weight}
@@ -11,12 +11,12 @@ use Rattle.tags.proofs.calls.TagsReference.allowance.Goals as goal
 pub overflow_sub-rest : goal.overflow_sub-rest
 overflow_sub-rest c =
     omega
-    (arith, c.from.ensures, c.from-weight.ensures, (others_weight c.args.self.now c.args.flow c.in_ok-stamp.stamp c.in_ok-stamp.ensures).0)
+    (arith, c.from.ensures, c.from-weight.ensures, (others_weight c.args.self.now c.args.flow (later c.args.self.now.time c.in_ok-stamp.stamp) c.in_ok-stamp.ensures).0)
 
 pub returns : goal.returns
 returns c =
-    let found = stamp_found c.args.self.now c.args.flow c.in_ok-stamp.stamp c.in_ok-stamp.ensures in
-    let rest = others_weight c.args.self.now c.args.flow c.in_ok-stamp.stamp c.in_ok-stamp.ensures in
+    let found = stamp_found c.args.self.now c.args.flow (later c.args.self.now.time c.in_ok-stamp.stamp) c.in_ok-stamp.ensures in
+    let rest = others_weight c.args.self.now c.args.flow (later c.args.self.now.time c.in_ok-stamp.stamp) c.in_ok-stamp.ensures in
     let inside : ltb c.args.flow (length (tags_held c.args.self.now).stamps) ≡ true = lt-ltb _ _ found.0 in
     let w : c.from-weight.result ≡ (stamp_at (tags_held c.args.self.now).stamps c.args.flow).weight
     = c.from-weight.ensures ∙ ap weight_of found.1 in

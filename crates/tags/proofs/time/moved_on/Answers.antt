@@ -4,12 +4,12 @@ use Rattle.std.proofs.lemmas.Iterator.Consumers.{YieldsList-from_filter, YieldsL
 use Rattle.std.proofs.lemmas.Iterator.Adapters.{option_map_id}
 use Rattle.tag_rule.specs.Tags.{is_due}
 use Rattle.tags.proofs.Steps.{tag_of, lowest_is, time_is}
-use Rattle.tags.proofs.time.advance.Goals as goal
+use Rattle.tags.proofs.time.moved_on.Goals as goal
 
 pub returns : goal.returns
 returns c =
     c.unwrap_or.ensures
-    ∙ time_is _ _
+    ∙ time_is c.args.time _ _
     (sym (option_map_id c.min.result)
     ∙ (min_from_yields_List _ c.min.result c.min.ensures.ran
     (YieldsList-from_map _ tag_of

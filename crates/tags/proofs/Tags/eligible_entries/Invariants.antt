@@ -1,8 +1,0 @@
-use Rattle.std.proofs.Common.{◌≡◌, take}
-use Rattle.tag_rule.specs.Rule.{entries}
-use Rattle.tags.specs.View.{tags_held}
-use Rattle.tags.proofs.Tags.eligible_entries.Given as goal
-
--- the entries of the flows so far are found
-abbrev pub invariant-loop-flow : goal.invariant-loop-flow
-invariant-loop-flow l = l.found.items ≡ entries 0 l.self.lookahead 0 (take l.flow (tags_held l.self).stamps)
