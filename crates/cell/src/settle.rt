@@ -103,6 +103,7 @@ impl Flows<'_> {
     }
 
     /// Settles a slot that is this flow's turn.
+    #[inline(always)]
     fn settle_marked(&self, ring: &mut Ring, marked: u8) -> (Taking, Charge)
         ensures settled { result ≡ marked_slot (rows_of self.now) (clean_of self.now) (ring_held ring.old) marked }
         ensures moved { MovesRing self.now ring.old result.0 ring.new }
