@@ -1,5 +1,5 @@
 ghost use Rattle.std.specs.Prelude.{◌≡◌, map, All};
-ghost use Rattle.cell_rules.specs.Rules.{leaders, first_leader, can_start_to_lead, first_in_sync, chargeable};
+ghost use Rattle.cell_rules.specs.Rules.{at, leaders, first_leader, can_start_to_lead, first_in_sync, chargeable};
 ghost use Rattle.cell_rules.specs.InOrder.{ChargedInOrder};
 ghost use Rattle.cell.specs.FlowsView.{clean_of, rows_of};
 ghost use Rattle.cell.specs.Leaders.{flow_of, HasItsRow, LeaderOf};
@@ -7,15 +7,16 @@ ghost use Rattle.cell.specs.Leaders.{flow_of, HasItsRow, LeaderOf};
 use crate::flows::Flows;
 use crate::leader::Leader;
 use arrayvec::ArrayVec;
+use cell_rules::row::Row;
 use order::least;
 
 impl Flows<'_> {
-    /// A flow as a leader, if it is able, leading and below its lead limit.
-    fn leader(&self, flow: u8) -> Option<Leader>
+    /// A flow, which has this row, as a leader, if it is able, leading and below its lead limit.
+    fn leader(&self, flow: u8, row: &Row) -> Option<Leader>
+        requires { row.now ≡ at (rows_of self.now) flow }
         ensures { LeaderOf (rows_of self.now) (clean_of self.now) flow result }
     {
-        let row = self.row(flow);
-        if self.is_able(flow) && row.leads() && row.lead < row.lead_limit {
+        if row.leads() && row.lead < row.lead_limit && self.can_send(flow, row) {
             Some(Leader {
                 flow,
                 lead: row.lead,
@@ -32,8 +33,8 @@ impl Flows<'_> {
         ensures read { All (HasItsRow (rows_of self.now)) result.items }
     {
         let mut found = ArrayVec::new();
-        for flow in 0..self.count() {
-            if let Some(leader) = self.leader(flow) {
+        for (place, row) in self.rows.iter().enumerate() {
+            if let Some(leader) = self.leader(place as u8, row) {
                 found.push(leader);
             }
         }

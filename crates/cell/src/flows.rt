@@ -19,7 +19,7 @@ pub(crate) struct Flows<'a> {
 impl Flows<'_> {
     ghost use Rattle.std.specs.Prelude.{◌≡◌, ◌-◌, ◌&&◌, nat_lt, IfSome};
     ghost use Rattle.std.specs.List.{find, range_with_len};
-    ghost use Rattle.cell_rules.specs.Rules.{waiting, able, lowest_able, repayable};
+    ghost use Rattle.cell_rules.specs.Rules.{waiting, able, lags, lowest_able, repayable};
     ghost use Rattle.cell_rules.specs.InOrder.{LowestAble};
     ghost use Rattle.cell.specs.FlowsView.{clean_of, rows_of};
 
@@ -41,7 +41,7 @@ impl Flows<'_> {
     }
 
     /// Whether a flow with this row can send: it is waiting and clean.
-    fn can_send(&self, flow: u8, row: &Row) -> bool
+    pub(crate) fn can_send(&self, flow: u8, row: &Row) -> bool
         ensures { result ≡ (nat_lt 0 (waiting row.now) && clean_of self.now flow) }
     {
         row.waiting() > 0 && self.clean.contains(flow)
@@ -54,11 +54,18 @@ impl Flows<'_> {
         self.can_send(flow, &self.row(flow))
     }
 
-    /// Whether a flow is lagging and able.
+    /// Whether a flow with this row is lagging and able.
+    fn can_be_repaid(&self, flow: u8, row: &Row) -> bool
+        ensures { result ≡ (lags row.now && (nat_lt 0 (waiting row.now) && clean_of self.now flow)) }
+    {
+        row.lags() && self.can_send(flow, row)
+    }
+
+    /// Whether a flow is lagging and able; a number past the last flow never is.
     pub(crate) fn is_repayable(&self, flow: u8) -> bool
         ensures { result ≡ repayable (rows_of self.now) (clean_of self.now) flow }
     {
-        self.row(flow).lags() && self.is_able(flow)
+        self.can_be_repaid(flow, &self.row(flow))
     }
 
     /// The lowest lagging flow that is able, of those from one up to another, which is not among them.
@@ -66,7 +73,14 @@ impl Flows<'_> {
         ensures found { result ≡ find (repayable (rows_of self.now) (clean_of self.now)) (range_with_len from (to - from)) }
         ensures inside { IfSome result (λ flow. flow < to) }
     {
-        (from..to).find(|flow| self.is_repayable(*flow))
+        let end = usize::from(to).min(self.rows.len());
+        for place in usize::from(from)..end {
+            let flow = place as u8;
+            if self.can_be_repaid(flow, &self.rows[place]) {
+                return Some(flow);
+            }
+        }
+        None
     }
 
     /// The lowest flow that is able.

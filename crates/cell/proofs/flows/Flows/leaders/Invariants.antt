@@ -5,9 +5,9 @@ use Rattle.cell.specs.Leaders.{flow_of, HasItsRow}
 use Rattle.cell.proofs.flows.Flows.leaders.Given as goal
 
 -- the leaders among the flows so far are found
-abbrev pub invariant-loop-flow : goal.invariant-loop-flow
-invariant-loop-flow l =
+abbrev pub invariant-loop-place : goal.invariant-loop-place
+invariant-loop-place l =
     record {
-      who : map flow_of l.found.items ≡ filter (can_lead_more l.self.rows.now (has l.self.clean.bits)) (range_with_len 0 l.flow);
+      who : map flow_of l.found.items ≡ filter (can_lead_more l.self.rows.now (has l.self.clean.bits)) (range_with_len 0 l.place);
       read : All (HasItsRow l.self.rows.now) l.found.items;
     }
