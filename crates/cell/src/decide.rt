@@ -48,8 +48,14 @@ fn decide_on<R: Reference>(
     let (taking, charge) = ledger.flows(reports.clean()).settle(ring, marked);
     ledger.book(marked, taking, charge);
     release(reference, ledger, marked);
-    // What is settled keeps the rules of a record.
-    Record::new(marked, taking, charge, reports.flow_count(), reports.slot()).unwrap()
+    // What is settled keeps the rules of a record, which is shown and so not tested here.
+    Record {
+        marked,
+        taking,
+        charge,
+        flow_count: reports.flow_count(),
+        slot: reports.slot(),
+    }
 }
 
 impl<R: Reference> Cell<R> {

@@ -15,14 +15,20 @@ mod read;
 pub mod taking;
 mod write;
 
-/// The record of one slot, which keeps every rule of its format.
+/// The record of one slot, which keeps every rule of its format: whoever makes or alters one shows that it does, or has
+/// `new` test it.
 #[derive(Clone, Copy, PartialEq, Eq, Debug)]
 pub struct Record {
-    marked: Option<u8>,
-    taking: Taking,
-    charge: Charge,
-    flow_count: u8,
-    slot: u32,
+    /// The flow whose turn it was; none where nobody was due.
+    pub marked: Option<u8>,
+    /// Who sent, and on what account.
+    pub taking: Taking,
+    /// What the marked flow was charged.
+    pub charge: Charge,
+    /// The number of flows of the cell, 1 to 16.
+    pub flow_count: u8,
+    /// The number of the slot, below 1,000,000,000.
+    pub slot: u32,
     ghost some: { 1 ≤ flow_count },
     ghost few: { flow_count ≤ 16 },
     ghost early: { slot < 1000000000 },
