@@ -59,6 +59,7 @@ impl Reference for RoundRobin {
         self.switch(flow, false);
     }
 
+    #[inline(always)]
     fn turn(&mut self) -> Option<u8> {
         let flow = self.choose()?;
         self.quotas[usize::from(flow)].used += 1;

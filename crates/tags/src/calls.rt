@@ -68,6 +68,7 @@ impl Reference for Tags {
         self.switch(flow, false);
     }
 
+    #[inline(always)]
     fn turn(&mut self) -> Option<u8> {
         let flow = self.pick()?;
         self.charge(flow);
