@@ -11,6 +11,7 @@ use reference::Reference;
 impl<R: Reference> Cell<R> {
     /// Counts packets that arrive for a flow. A number that is no flow's, and more packets than can arrive for one, are
     /// refused, and the cell is then as it was.
+    #[inline(always)]
     pub fn arrive(&mut self, flow: u8, packets: u32) -> Result<(), ArrivalFault>
         ensures exact { Arrived R.meaning (cell_held self.old) flow packets (cell_held self.new) result }
         ensures unaltered { IfErr result (λ _. self.new ≡ self.old) }
