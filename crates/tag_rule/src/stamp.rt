@@ -10,7 +10,7 @@ pub struct Stamp {
     pub weight: u8,
     /// The flow's delay weight: the larger, the sooner its finish tag follows its start tag.
     pub delay_weight: u8,
-    /// The start tag, counted from virtual time on.
+    /// The start tag, counted from wherever the one who holds it counts from.
     pub tag: u32,
     /// Whether the flow is due.
     pub due: bool,

@@ -38,15 +38,15 @@ module _ (t : Table) (n p : ℕ) (zs : List Stamp) (e : n ≡ t.flow_count) (q :
       ∙ ap (λ ss. stamp_at ss k) fresh_front
       ∙ get_or-map fresh (flow_lines t) k no_line no_stamp (omega (arith, counted))
 
-  fresh_all_kept : kind_of t ≡ Tags → KeptBelow p zs n
-  fresh_all_kept kind k l =
+  pub fresh_kept : kind_of t ≡ Tags → KeptBelow p zs n
+  fresh_kept kind k l =
       let w = weight_in_range t k (omega (arith, counted)) in
       let d = delay_weight_in_range t kind k (omega (arith, counted)) in
       subst (Kept p) (sym (fresh_flow k l)) (w.0, w.1, d.0, d.1, omega arith)
 
-  -- seen from virtual time 0
-  pub fresh_kept : kind_of t ≡ Tags → KeptBelow p (map (later 0) zs) n
-  fresh_kept kind = subst (λ ss. KeptBelow p ss n) (sym (later_none zs)) (fresh_all_kept kind)
+  -- the same as they are seen from virtual time 0
+  pub fresh_seen_kept : kind_of t ≡ Tags → KeptBelow p (map (later 0) zs) n
+  fresh_seen_kept kind = subst (λ ss. KeptBelow p ss n) (sym (later_none zs)) (fresh_kept kind)
 
   pub fresh_on_time : advance (take n zs) ≡ 0
   fresh_on_time = ap advance fresh_front ∙ ap (time_after 0) (none_due (flow_lines t))
@@ -54,7 +54,10 @@ module _ (t : Table) (n p : ℕ) (zs : List Stamp) (e : n ≡ t.flow_count) (q :
   pub fresh_summed : weights_sum (flow_lines t) ≡ sum weight_of (take n zs)
   fresh_summed = same_sum (flow_lines t) ∙ ap (sum weight_of) (sym fresh_front)
 
-  pub fresh_held : with_lookahead p (map (later 0) (take n zs)) ≡ seen (table_clock t)
+  pub fresh_held : with_lookahead p (take n zs) ≡ seen (table_clock t)
   fresh_held =
-      ap (λ ss. with_lookahead p (map (later 0) ss)) fresh_front
+      ap (with_lookahead p) (fresh_front ∙ sym (later_none (map fresh (flow_lines t))))
       ∙ ap (λ m. with_lookahead m (seen (table_clock t)).stamps) q
+
+  pub fresh_seen_held : with_lookahead p (map (later 0) (take n zs)) ≡ seen (table_clock t)
+  fresh_seen_held = ap (with_lookahead p) (later_none (take n zs)) ∙ fresh_held

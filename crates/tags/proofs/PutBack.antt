@@ -1,10 +1,10 @@
--- What calls leave in an array whose front is worked on apart and put back, and what a question finds of no flow. These
--- theorems stood when the code worked on a part of the array and put it back. The code works on the whole array now and cites none of
--- them; a theorem that stood stays.
-use Rattle.std.proofs.Common.{◌≡◌, ℕ, ◌*◌, ◌<◌, ◌≤◌, Bool, true, false, List, ◌++◌, length, take, drop, Some, None, Option, nat_lt, slice_set, refl, sym, ap, subst, ◌∙◌, arith, length-set}
+-- What calls leave in an array whose front is worked on apart and put back, or in an array of stamps less virtual time, and what
+-- a question finds of no flow. These theorems stood when the code held such an array, and worked on a part of it or on the
+-- whole. The code holds start tags and virtual time from a base now and cites none of them; a theorem that stood stays.
+use Rattle.std.proofs.Common.{◌≡◌, ℕ, ◌*◌, ◌<◌, ◌≤◌, Bool, true, false, List, ◌++◌, length, map, get_or, take, drop, Some, None, Option, nat_lt, slice_set, refl, sym, ap, subst, ◌∙◌, arith, length-set}
 use Rattle.std.specs.List.{AllByRecursion}
 use Rattle.std.proofs.ByRecursion.{All-get_or}
-use Rattle.std.proofs.lemmas.List.{get_or_past}
+use Rattle.std.proofs.lemmas.List.{get_or_past, get_or-map, ext_get_or, length-map, take-map}
 use Rattle.std.proofs.lemmas.Bool.{ltb-false}
 use Rattle.reference.specs.Calls.{Call, after}
 use Rattle.reference.specs.Calls.Call.{turning, entering, leaving}
@@ -16,11 +16,11 @@ use Rattle.reference.proofs.Steps.{take_set}
 use Rattle.tag_rule.specs.declared.stamp.Stamp.{Stamp}
 use Rattle.tags.specs.declared.Tags.{Tags}
 use Rattle.tag_rule.specs.Rule.{no_stamp, stamp_at, marked}
-use Rattle.tag_rule.specs.Tags.{Tagged, with_lookahead, clock, held_after, stamp_of, weight_of, is_due, advance, settled, switching, Kept, KeptBelow, Sound, tags}
+use Rattle.tag_rule.specs.Tags.{Tagged, with_lookahead, clock, held_after, stamp_of, weight_of, is_due, advance, later, settled, switching, Kept, KeptBelow, Sound, tags}
 use Rattle.tags.specs.View.{tags_held}
 use Rattle.tags.specs.Held.{front_at, seen_stamps, seen_sized, held_front, held_length, held_total, held_sound}
 use Rattle.tags.proofs.Stored.{Stored}
-use Rattle.tag_rule.proofs.Laws.{flagged, switched_is, tags_lawful, picked_parts, stamp_kept, switch_past}
+use Rattle.tag_rule.proofs.Laws.{changed_sound, changed_numbers, flagged, switched_is, tags_lawful, picked_parts, stamp_kept, switch_past}
 
 pub all_below : (p : ℕ) (ss : List Stamp) → AllByRecursion (Kept p) ss → KeptBelow p ss (length ss)
 all_below p ss a k l = All-get_or (Kept p) ss k no_stamp l a
@@ -85,6 +85,47 @@ module _ (b : Bool) (t : Tags) (f : ℕ) where
   pub switched_outside : t.count ≤ f → tags_held t ≡ held_after (tags_held t) (switching b f)
   switched_outside l =
       sym (switched_is b (tags_held t) f ∙ switch_past b (tags_held t) f (held_sound t) (omega (arith, held_length t)))
+
+-- Flow f is given the stamp y in that array, and all is seen from where virtual time moves on to: zs is the array then. (n and i
+-- are the count and f, as numbers of another width.)
+module _ (t : Tags) (f : ℕ) (y : Stamp) (zs : List Stamp) (n i d : ℕ)
+    (share : y.weight ≡ (stamp_at (tags_held t).stamps f).weight) (k : Kept t.lookahead y)
+    (e : n ≡ t.count) (q : i ≡ f) (moved : d ≡ advance (take n (slice_set (seen_stamps t) i y)))
+    (made : zs ≡ map (later d) (slice_set (seen_stamps t) i y)) where
+  put_front : take t.count zs ≡ settled (slice_set (tags_held t).stamps f y)
+  put_front =
+      let long = ap (λ m. take m (slice_set (seen_stamps t) i y)) e in
+      let step : take t.count (slice_set (seen_stamps t) i y) ≡ slice_set (tags_held t).stamps f y
+      = take_set t.count (seen_stamps t) i y
+      ∙ (ap (λ ss. slice_set ss i y) (held_front t) ∙ ap (λ j. slice_set (tags_held t).stamps j y) q) in
+      let time : d ≡ advance (slice_set (tags_held t).stamps f y) = moved ∙ ap advance (long ∙ step) in
+      ap (take t.count) made
+      ∙ (take-map (later d) t.count (slice_set (seen_stamps t) i y)
+      ∙ (ap (map (later d)) step ∙ ap (λ m. map (later m) (slice_set (tags_held t).stamps f y)) time))
+
+  pub put_stored : Stored t zs
+  put_stored =
+      let array = slice_set (seen_stamps t) i y in
+      let z : length zs ≡ 16 = ap length made ∙ (length-map array (later d) ∙ (length-set (seen_stamps t) i y ∙ seen_sized t)) in
+      let sounds = changed_sound t.lookahead (tags_held t).stamps f y share (held_sound t) (λ _. k) in
+      let numbers = changed_numbers t.lookahead (tags_held t).stamps f y share in
+      record {
+        sized = z;
+        kept = front_each zs t.count z t.few (Kept t.lookahead) no_stamp (subst (AllByRecursion (Kept t.lookahead)) (sym put_front) sounds.kept);
+        on_time = ap advance put_front ∙ sounds.on_time;
+        summed = held_total t ∙ sym numbers.total ∙ ap (sum weight_of) (sym put_front);
+      }
+
+  pub put_holds : with_lookahead t.lookahead (take t.count zs) ≡ with_lookahead t.lookahead (settled (slice_set (tags_held t).stamps f y))
+  put_holds = ap (with_lookahead t.lookahead) put_front
+
+-- the list ys of what f makes of each of xs
+pub mapped :
+    {A B : Type 0} (f : A → B) (xs : List A) (ys : List B) (d : A) (e : B)
+    → length ys ≡ length xs → ((k : ℕ) → k < length xs → get_or ys k e ≡ f (get_or xs k d)) → ys ≡ map f xs
+mapped f xs ys d e l same =
+    ext_get_or e ys (map f xs) (l ∙ sym (length-map xs f))
+    (λ k h. same k (omega arith) ∙ sym (get_or-map f xs k d e (omega arith)))
 
 -- The flow f that a turn marks.
 module _ (p : ℕ) (ss : List Stamp) (f : ℕ) (s : Sound (with_lookahead p ss)) (o : Option ℕ) (e : o ≡ marked (clock (with_lookahead p ss))) (q : o ≡ Some f) where
