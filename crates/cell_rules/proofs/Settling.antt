@@ -3,6 +3,7 @@ use Rattle.std.proofs.Common.{◌≡◌, ℕ, ◌<◌, ◌≤◌, Bool, true, fa
 use Rattle.std.proofs.lemmas.Bool.{cond_both, and_parts, ltb-true, ltb-false, eqb-true, true≢false, cases_lt, ne_eqb}
 use Rattle.std.proofs.lemmas.List.{get_or_past}
 use Rattle.std.specs.Option.{option_map_or}
+use Rattle.record.specs.Accounts.{names}
 use Rattle.record.specs.declared.taking.Charge.{Charge}
 use Rattle.record.specs.declared.taking.Charge.TheVariants.{Nothing, LeadDown, LagUp, Forfeited}
 use Rattle.record.specs.declared.taking.Taking.{Taking}
@@ -10,7 +11,7 @@ use Rattle.record.specs.declared.taking.Taking.TheVariants.{Idle, Own, LagRepaid
 use Rattle.record.specs.Pairs.{sender_of}
 use Rattle.table.specs.Lines.{no_line}
 use Rattle.cell_rules.specs.declared.row.Row.{Row}
-use Rattle.cell_rules.specs.Rules.{Ring, at, fresh, waiting, flows, leads, lags, in_sync, able, around, lowest_able, repayable, moved_to, ring_finds, can_lead_more, can_start_to_lead, leads_less, chargeable, names, ring_or, chargeable_or, lowest_able_or_idle, designated, leading_slot, owing_slot, forfeited_slot, slot_of}
+use Rattle.cell_rules.specs.Rules.{Ring, at, fresh, waiting, flows, leads, lags, in_sync, able, around, lowest_able, repayable, moved_to, ring_finds, can_lead_more, can_start_to_lead, leads_less, chargeable, ring_or, chargeable_or, lowest_able_or_idle, designated, leading_slot, owing_slot, forfeited_slot, slot_of}
 use Rattle.cell_rules.specs.Bookable.{MaySend, MayBear, Settles}
 use Rattle.cell_rules.proofs.Found.{Found, Missed, found_as, find_found, find_missed, least_found, either_found, all_in_range, map_or_both}
 

@@ -1,11 +1,12 @@
 -- The rules of a cell, in the order in which docs/RULES.md says them in prose. What happens follows from what the
 -- reference holds, the rows of the flows, the ring, the number of the slot, and which flows are clean.
-use Rattle.std.specs.Prelude.{ℕ, zero, suc, ◌+◌, ◌-◌, ◌*◌, ◌/◌, ◌^◌, Bool, false, cond, not, ◌&&◌, List, [], ◌∷◌, ◌++◌, map, length, Some, None, Option, ◌==◌, nat_le, nat_lt, slice_index_or, slice_set}
+use Rattle.std.specs.Prelude.{ℕ, zero, suc, ◌+◌, ◌-◌, ◌*◌, ◌/◌, ◌^◌, Bool, cond, not, ◌&&◌, List, [], ◌∷◌, ◌++◌, map, length, Some, None, Option, ◌==◌, nat_le, nat_lt, slice_index_or, slice_set}
 use Rattle.std.specs.Int.{bit_at}
 use Rattle.std.specs.Int.RustNames.{bit_or}
 use Rattle.std.specs.List.{best_of, filter, find, range_with_len}
 use Rattle.std.specs.Option.{option_map_or, option_or}
 use Rattle.octets.specs.Conditions.{first_of}
+use Rattle.record.specs.Accounts.{names, repaid_sender, charged_sender, free_sender, lead_down_of, lag_up_of, forfeited_by}
 use Rattle.record.specs.declared.taking.Charge.{Charge}
 use Rattle.record.specs.declared.taking.Charge.TheVariants.{Nothing, LeadDown, LagUp, Forfeited}
 use Rattle.record.specs.declared.taking.Taking.{Taking}
@@ -206,52 +207,7 @@ pub record Outcome : Type 0 where
   pub taking : Taking
   pub charge : Charge
 
--- the sender, if it is paid back lag, if it is charged lead, or if it sends free
-abbrev pub repaid_to : Taking → Option ℕ
-repaid_to Idle = None
-repaid_to (Own f) = None
-repaid_to (LagRepaid f) = Some f
-repaid_to (LeadCharged f) = None
-repaid_to (Free f) = None
-
-abbrev pub charged_to : Taking → Option ℕ
-charged_to Idle = None
-charged_to (Own f) = None
-charged_to (LagRepaid f) = None
-charged_to (LeadCharged f) = Some f
-charged_to (Free f) = None
-
-abbrev pub free_to : Taking → Option ℕ
-free_to Idle = None
-free_to (Own f) = None
-free_to (LagRepaid f) = None
-free_to (LeadCharged f) = None
-free_to (Free f) = Some f
-
--- the marked flow, if it leads by one less, lags by one more, or forfeits
-abbrev pub lead_down_of : Charge → Option ℕ → Option ℕ
-lead_down_of Nothing m = None
-lead_down_of LeadDown m = m
-lead_down_of LagUp m = None
-lead_down_of Forfeited m = None
-
-abbrev pub lag_up_of : Charge → Option ℕ → Option ℕ
-lag_up_of Nothing m = None
-lag_up_of LeadDown m = None
-lag_up_of LagUp m = m
-lag_up_of Forfeited m = None
-
-abbrev pub forfeited_by : Charge → Option ℕ → Option ℕ
-forfeited_by Nothing m = None
-forfeited_by LeadDown m = None
-forfeited_by LagUp m = None
-forfeited_by Forfeited m = m
-
--- whether a flow is the one that is named, and 1 or 0 for that
-abbrev pub names : Option ℕ → ℕ → Bool
-names None f = false
-names (Some g) f = g == f
-
+-- 1 if a flow is the one that is named, and 0 if not
 abbrev pub once : Option ℕ → ℕ → ℕ
 once named f = cond (names named f) 1 0
 
@@ -262,10 +218,10 @@ booked_row x f r =
       arrived = r.arrived;
       marked = r.marked + once x.marked f;
       sent = r.sent + once (sender_of x.taking) f;
-      free = r.free + once (free_to x.taking) f;
+      free = r.free + once (free_sender x.taking) f;
       forfeited = r.forfeited + once (forfeited_by x.charge x.marked) f;
-      lead = r.lead + once (charged_to x.taking) f - once (lead_down_of x.charge x.marked) f;
-      lag = r.lag + once (lag_up_of x.charge x.marked) f - once (repaid_to x.taking) f;
+      lead = r.lead + once (charged_sender x.taking) f - once (lead_down_of x.charge x.marked) f;
+      lag = r.lag + once (lag_up_of x.charge x.marked) f - once (repaid_sender x.taking) f;
       giving = cond (names x.marked f) (giving_after r) r.giving;
       lag_limit = r.lag_limit;
       lead_limit = r.lead_limit;

@@ -1,6 +1,7 @@
 -- What a cell keeps in every past, over every reference: each decision is the rules', and beside its clear-weather twin no
 -- flow is further behind than it should be.
 use Rattle.std.specs.Prelude.{All, ◌≡◌, ℕ, ◌+◌, ◌*◌, ◌<◌, ◌≤◌, false, true, ◌⊎◌, ◌↔◌, List, map, length, Some, None, count_by, Option, nat_lt, slice_index_or}
+use Rattle.record.specs.Accounts.{names, free_sender, forfeited_by}
 use Rattle.record.specs.declared.taking.Charge.TheVariants.{Nothing, LeadDown, LagUp, Forfeited}
 use Rattle.record.specs.declared.taking.Taking.{Taking}
 use Rattle.record.specs.declared.taking.Taking.TheVariants.{Idle, Own}
@@ -9,7 +10,7 @@ use Rattle.reference.specs.Meaning.{Meaning, SameNumbers}
 use Rattle.table.specs.declared.line.Line.{Line}
 use Rattle.table.specs.Lines.{no_line}
 use Rattle.cell_rules.specs.declared.row.Row.{Row}
-use Rattle.cell_rules.specs.Rules.{at, waiting, due, names, free_to, forfeited_by, ring_finds, chargeable, flags_clean, outcome, decided, created}
+use Rattle.cell_rules.specs.Rules.{at, waiting, due, ring_finds, chargeable, flags_clean, outcome, decided, created}
 use Rattle.cell_rules.specs.Facts.{Facts}
 use Rattle.fairness.specs.Past.{Which, Call, Decision, after, answers, decisions, packets_accepted, refusal_in}
 use Rattle.fairness.specs.Past.Which.{cell, twin}
@@ -78,7 +79,7 @@ module _ (M : Meaning) where
   pub record CountsAreTotals (ds : List (Decision M)) (f : ℕ) (r : Row) : Type 0 where
     pub marked : r.marked ≡ count_by (λ d. names d.came_to.marked f) ds
     pub sent : r.sent ≡ count_by (λ d. names (sender_of d.came_to.taking) f) ds
-    pub free : r.free ≡ count_by (λ d. names (free_to d.came_to.taking) f) ds
+    pub free : r.free ≡ count_by (λ d. names (free_sender d.came_to.taking) f) ds
     pub forfeited : r.forfeited ≡ count_by (λ d. names (forfeited_by d.came_to.charge d.came_to.marked) f) ds
 
   -- ## A past: what the reference held before creation, the table's lines, and the calls since

@@ -3,11 +3,12 @@ use Rattle.std.proofs.Common.{◌≡◌, ℕ, ◌+◌, ◌<◌, Bool, true, cond
 use Rattle.std.specs.List.{range_with_len}
 use Rattle.std.proofs.lemmas.List.Sums.{sum_by_push, fold_push}
 use Rattle.std.proofs.lemmas.List.FromFn.{fill_by_all, get_or-map-range_with_len}
+use Rattle.record.specs.Accounts.{names, free_sender, forfeited_by}
 use Rattle.record.specs.declared.Record.{Record}
 use Rattle.record.specs.Pairs.{sender_of}
 use Rattle.tally.specs.declared.FlowTally.{FlowTally}
 use Rattle.tally.specs.declared.Tally.{Tally}
-use Rattle.tally.specs.Counting.{names, free_sender, forfeited_by, counted, once_more, flow_once_more, flow_tally, most_counted, tally_of, nothing_counted}
+use Rattle.tally.specs.Counting.{counted, once_more, flow_once_more, flow_tally, most_counted, tally_of, nothing_counted}
 
 held_once_more : (n b : ℕ) → min (n + b) most_counted ≡ min (min n most_counted + b) most_counted
 held_once_more n b = omega arith

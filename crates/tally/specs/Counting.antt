@@ -1,38 +1,11 @@
 -- What is counted over a list of records.
 use Rattle.std.specs.Prelude.{ℕ, ◌+◌, Bool, false, cond, List, map, length, Some, None, Option, ◌==◌, min, max, count_by, is_none, nat_lt, slice_get}
 use Rattle.std.specs.List.{fold, range_with_len}
+use Rattle.record.specs.Accounts.{names, free_sender, forfeited_by}
 use Rattle.record.specs.Pairs.{sender_of}
 use Rattle.record.specs.declared.Record.{Record}
-use Rattle.record.specs.declared.taking.Charge.{Charge}
-use Rattle.record.specs.declared.taking.Charge.TheVariants.{Nothing, LeadDown, LagUp, Forfeited}
-use Rattle.record.specs.declared.taking.Taking.{Taking}
-use Rattle.record.specs.declared.taking.Taking.TheVariants.{Idle, Own, LagRepaid, LeadCharged, Free}
 use Rattle.tally.specs.declared.FlowTally.{FlowTally}
 use Rattle.tally.specs.declared.Tally.{Tally}
-
--- ## What a record says of a flow
-
--- whether a flow is the one that is named, if one is
-abbrev pub names : Option ℕ → ℕ → Bool
-names None f = false
-names (Some g) f = g == f
-
--- the flow that sends on no account
-abbrev pub free_sender : Taking → Option ℕ
-free_sender Idle = None
-free_sender (Own f) = None
-free_sender (LagRepaid f) = None
-free_sender (LeadCharged f) = None
-free_sender (Free f) = Some f
-
--- the marked flow, if it forfeits
-abbrev pub forfeited_by : Charge → Option ℕ → Option ℕ
-forfeited_by Nothing marked = None
-forfeited_by LeadDown marked = None
-forfeited_by LagUp marked = None
-forfeited_by Forfeited marked = marked
-
--- ## Counts
 
 -- 2 ^ 64 - 1, at which a count stays
 abbrev pub most_counted : ℕ

@@ -1,7 +1,8 @@
 ghost use Rattle.std.specs.Prelude.{◌≡◌, ℕ, ◌<◌, List, [], ◌∷◌, ◌++◌, length, slice_index_or};
 ghost use Rattle.record.specs.declared.Record.{Record};
 ghost use Rattle.tally.specs.declared.FlowTally.{FlowTally};
-ghost use Rattle.tally.specs.Counting.{names, nothing_counted, free_sender, forfeited_by, once_more, flow_once_more, tally_of};
+ghost use Rattle.record.specs.Accounts.{names, free_sender, forfeited_by};
+ghost use Rattle.tally.specs.Counting.{nothing_counted, once_more, flow_once_more, tally_of};
 
 use crate::{FlowTally, Tally};
 use record::Record;
