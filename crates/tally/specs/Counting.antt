@@ -1,5 +1,5 @@
 -- What is counted over a list of records.
-use Rattle.std.specs.Prelude.{ℕ, ◌+◌, Bool, false, cond, List, map, length, Some, None, Option, ◌==◌, min, max, count_by, is_none, nat_lt, slice_get}
+use Rattle.std.specs.Prelude.{◌≡◌, ℕ, ◌+◌, ◌<◌, Bool, true, cond, List, map, length, Some, None, Option, min, max, count_by, is_none, nat_lt, slice_get, slice_index_or}
 use Rattle.std.specs.List.{fold, range_with_len}
 use Rattle.record.specs.Accounts.{names, free_sender, forfeited_by}
 use Rattle.record.specs.Pairs.{sender_of}
@@ -57,6 +57,16 @@ tally_of records =
 -- nothing has been counted of a flow
 abbrev pub nothing_counted : FlowTally
 nothing_counted = record { marked = 0; sent = 0; free = 0; forfeited = 0 }
+
+-- One more record is added to a tally: each count is one more if the record counts there, and else as it was.
+pub record Added (old : Tally) (r : Record) (new : Tally) : Type 0 where
+  pub slots : new.slots ≡ once_more old.slots true
+  pub idle : new.idle ≡ once_more old.idle (is_none (sender_of r.taking))
+  pub unmarked : new.unmarked ≡ once_more old.unmarked (is_none r.marked)
+  pub flow_count : new.flow_count ≡ max old.flow_count r.flow_count
+  pub flows :
+      (f : ℕ) → f < length old.flows
+      → slice_index_or new.flows f nothing_counted ≡ flow_once_more (slice_index_or old.flows f nothing_counted) f r
 
 -- the counts of flow f that a tally holds, if a record is of so many flows
 abbrev pub told_of_flow : Tally → ℕ → Option FlowTally

@@ -6,7 +6,7 @@ mod adding;
 mod questions;
 
 /// What was counted of one flow.
-#[derive(Clone, Copy, PartialEq, Eq, Debug)]
+#[derive(Clone, Copy, PartialEq, Eq, Debug, Default)]
 pub struct FlowTally {
     /// Slots that were its turn.
     pub marked: u64,
