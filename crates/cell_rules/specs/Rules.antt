@@ -82,8 +82,8 @@ abbrev pub first_ring : ℕ → Ring
 first_ring n = record { pointer = n - 1; remainder = 0 }
 
 -- all n flows, from the one that follows flow p, around, ending at p
-abbrev pub around : ℕ → ℕ → List ℕ
-around n p = range_with_len (p + 1) (n - (p + 1)) ++ range_with_len 0 (p + 1)
+abbrev pub flows_around : ℕ → ℕ → List ℕ
+flows_around n p = range_with_len (p + 1) (n - (p + 1)) ++ range_with_len 0 (p + 1)
 
 -- ## Who can send, by the rows as they are before the slot, and by which flows are clean in it
 
@@ -106,7 +106,7 @@ module _ (rows : List Row) (clean : ℕ → Bool) where
 
   -- the first such flow, from the one that follows flow p around
   abbrev pub next_around : ℕ → Option ℕ
-  next_around p = find repayable (around (length rows) p)
+  next_around p = find repayable (flows_around (length rows) p)
 
   -- the flow that the ring looked for, and the ring there, with a quarter of its lag before this slot; or none, and the ring
   -- as it was
