@@ -8,8 +8,8 @@ use Rattle.std.specs.Option.{option_or}
 use Rattle.order.specs.Fractions.{fractions_chain}
 use Rattle.reference.specs.Flows.{away}
 use Rattle.cell_rules.specs.declared.row.Row.{Row}
-use Rattle.cell_rules.specs.Rules.{Ring, at, flows, leads, lags, able, flows_around, least, lowest_able, repayable, moved_to, ring_finds, can_lead_more, leads_less, can_start_to_lead, chargeable}
-use Rattle.cell_rules.specs.InOrder.{LowestAble, ChargedInOrder, finds_again, FoundAround}
+use Rattle.cell_rules.specs.Rules.{Ring, at, flows, leads, lags, able, flows_around, least, lowest_able, repayable, moved_to, ring_finds, finds_again, can_lead_more, leads_less, can_start_to_lead, chargeable}
+use Rattle.cell_rules.specs.InOrder.{LowestAble, ChargedInOrder, FoundAround}
 use Rattle.cell_rules.proofs.Settling.{able_inside}
 
 -- ## A search upward

@@ -1,5 +1,5 @@
--- The rows of flows: two with the same counts and limits are the same, and one of which nothing has been counted keeps the
--- facts of a flow.
+-- The rows of flows: two with the same counts and limits are the same, and one of which nothing has been counted keeps
+-- the facts of a flow.
 use Rattle.std.proofs.Common.{◌≡◌, ℕ, zero, suc, List, [], ◌∷◌, map, get_or, sym, refl, subst, arith}
 use Rattle.table.specs.Lines.{no_line}
 use Rattle.table.specs.declared.line.Line.{Line}

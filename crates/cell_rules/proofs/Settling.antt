@@ -11,7 +11,7 @@ use Rattle.record.specs.declared.taking.Taking.TheVariants.{Idle, Own, LagRepaid
 use Rattle.record.specs.Pairs.{sender_of}
 use Rattle.table.specs.Lines.{no_line}
 use Rattle.cell_rules.specs.declared.row.Row.{Row}
-use Rattle.cell_rules.specs.Rules.{Ring, at, fresh, waiting, flows, leads, lags, in_sync, able, flows_around, lowest_able, repayable, moved_to, ring_finds, can_lead_more, can_start_to_lead, leads_less, chargeable, ring_or, chargeable_or, lowest_able_or_idle, designated, leading_slot, owing_slot, forfeited_slot, slot_of}
+use Rattle.cell_rules.specs.Rules.{Ring, at, fresh, waiting, flows, leads, lags, in_sync, able, flows_around, lowest_able, repayable, moved_to, ring_finds, finds_again, can_lead_more, can_start_to_lead, leads_less, chargeable, ring_or, chargeable_or, lowest_able_or_idle, designated, leading_slot, owing_slot, forfeited_slot, slot_of}
 use Rattle.cell_rules.specs.Bookable.{MaySend, MayBear, Settles}
 use Rattle.cell_rules.proofs.Found.{Found, Missed, found_as, find_found, find_missed, least_found, either_found, all_in_range, map_or_both}
 
@@ -136,7 +136,7 @@ module _ (rows : List Row) (clean : ℕ → Bool) where
     ring_found =
         let test : ℕ → Bool = repayable rows clean in
         found_as (λ f. test f ≡ true) (λ f. Serves (LagRepaid f)) repays (ring_finds rows clean ring).0
-        (cond_both (test ring.pointer && ltb 0 ring.remainder) _ _ (λ (x : Option ℕ × Ring). Found (λ f. test f ≡ true) x.0)
+        (cond_both (finds_again rows clean ring) _ _ (λ (x : Option ℕ × Ring). Found (λ f. test f ≡ true) x.0)
         (λ e. (and_parts (test ring.pointer) (ltb 0 ring.remainder) e).0)
         (λ _. moved_found (λ f. test f ≡ true) _ (find_found test (flows_around (length rows) ring.pointer))))
 

@@ -59,8 +59,8 @@ lags r = nat_lt 0 r.lag
 abbrev pub in_sync : Row → Bool
 in_sync r = r.lead == 0 && r.lag == 0
 
--- At its mark, a leading flow's lead is added to giving. If that is then at least the lead limit, the slot is designated,
--- that is, meant for a lagging flow, and the limit is subtracted.
+-- At its mark, a leading flow's lead is added to giving. If that is then at least the lead limit, the slot is
+-- designated, that is, meant for a lagging flow, and the limit is subtracted.
 abbrev pub given : Row → ℕ
 given r = r.giving + r.lead
 
@@ -108,16 +108,20 @@ module _ (rows : List Row) (clean : ℕ → Bool) where
   abbrev pub next_around : ℕ → Option ℕ
   next_around p = find repayable (flows_around (length rows) p)
 
-  -- the flow that the ring looked for, and the ring there, with a quarter of its lag before this slot; or none, and the ring
-  -- as it was
+  -- the flow that the ring looked for, and the ring there, with a quarter of its lag before this slot; or none, and the
+  -- ring as it was
   abbrev pub moved_to : Ring → Option ℕ → Option ℕ × Ring
   moved_to ring None = (None, ring)
   moved_to ring (Some f) = (Some f, record { pointer = f; remainder = (at rows f).lag / 4 })
 
+  -- the pointed flow is lagging and able, and has slots left
+  abbrev pub finds_again : Ring → Bool
+  finds_again ring = repayable ring.pointer && nat_lt 0 ring.remainder
+
   -- the flow that the ring finds, and the ring once that flow sends
   abbrev pub ring_finds : Ring → Option ℕ × Ring
   ring_finds ring =
-      cond (repayable ring.pointer && nat_lt 0 ring.remainder)
+      cond (finds_again ring)
       (Some ring.pointer, record { pointer = ring.pointer; remainder = ring.remainder - 1 })
       (moved_to ring (next_around ring.pointer))
 
@@ -162,8 +166,8 @@ module _ (rows : List Row) (clean : ℕ → Bool) where
     abbrev pub ring_or : Taking → Taking
     ring_or other = option_map_or LagRepaid (ring_finds rows clean ring).0 other
 
-    -- a slot that no marked flow uses: the ring's flow, else the lowest able flow; and one in which a chargeable flow comes
-    -- between these
+    -- a slot that no marked flow uses: the ring's flow, else the lowest able flow; and one in which a chargeable flow
+    -- comes between these
     abbrev pub repaid_or_free : Taking
     repaid_or_free = ring_or lowest_able_or_idle
 

@@ -33,8 +33,8 @@ due_left a m e = grind (arith, nat_tests)
 due_remains : (a m : ℕ) → m < a → eqb (a - (m + 1)) 0 ≡ false → ltb 0 (a - m) ≡ ltb 0 (a - (m + 1))
 due_remains a m l e = grind (arith, nat_tests)
 
--- Of a flow: no more of its turns are past than packets arrived, the reference holds it due exactly if its due is above 0,
--- its facts hold, and its limits are the table's.
+-- Of a flow: no more of its turns are past than packets arrived, the reference holds it due exactly if its due is above
+-- 0, its facts hold, and its limits are the table's.
 pub record Kept (held_due : Bool) (r : Row) (l : Line) : Type 0 where
   pub marked_arrived : r.marked ≤ r.arrived
   pub is_due : held_due ≡ ltb 0 (due r)

@@ -1,5 +1,5 @@
-//! Many calls on a reference at once: every flow enters, and one turn after another. Each flow that is due has its share
-//! of the turns.
+//! Many calls on a reference at once: every flow enters, and one turn after another. Each flow that is due has its
+//! share of the turns.
 
 #![tactic(auto)]
 

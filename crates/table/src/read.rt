@@ -53,7 +53,8 @@ impl Table {
         checked(bytes)
     }
 
-    /// The flow count that the bytes of a table tell, if they are right up to their header. Their lines are not looked at.
+    /// The flow count that the bytes of a table tell, if they are right up to their header. Their lines are not looked
+    /// at.
     pub fn told_flow_count(bytes: &[u8]) -> Result<u8, HeaderFault>
         ensures { FlowCountTold bytes.now result }
     {

@@ -29,8 +29,8 @@ fn write_marks<W: fmt::Write>(f: &mut fmt::Formatter<W>, marks: &[Option<u8>]) -
 }
 
 impl RoundsText<'_> {
-    /// One flow in a line: its marks against its share of two rounds, which is twice its weight, and the fewest marks that
-    /// its allowance leaves it.
+    /// One flow in a line: its marks against its share of two rounds, which is twice its weight, and the fewest marks
+    /// that its allowance leaves it.
     fn write_flow<W: fmt::Write>(&self, f: &mut fmt::Formatter<W>, flow: u8) -> fmt::Result
         requires { flow < own.flows (own_held self.now.reference.now) }
     {
