@@ -3,7 +3,7 @@ use Rattle.std.proofs.Common.{◌≡◌, ℕ, suc, ◌+◌, ◌-◌, ◌<◌, Bo
 use Rattle.std.specs.List.{find, range_with_len}
 
 -- the flows from i to n are flow i and those above it
-pub flows_from : (i n : ℕ) → i < n → range_with_len i (n - i) ≡ i ∷ range_with_len (i + 1) (n - (i + 1))
+flows_from : (i n : ℕ) → i < n → range_with_len i (n - i) ≡ i ∷ range_with_len (i + 1) (n - (i + 1))
 flows_from i n h = let e : n - i ≡ suc (n - (i + 1)) = omega arith in rw e
 
 module _ (test : ℕ → Bool) (i n : ℕ) where

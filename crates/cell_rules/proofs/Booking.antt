@@ -35,10 +35,10 @@ booked_at x rows k h = each_at (booked_row x) 0 rows k h ∙ ap (λ i. booked_ro
 pub once_case : (f k : ℕ) (P : ℕ → Type 0) → (f ≡ k → P 1) → ((f ≡ k → ⊥) → P 0) → P (once (Some f) k)
 once_case f k P named other = cond_both (eqb f k) 1 0 P (λ e. named (eqb-true f k e)) (λ e. other (eqb-false f k e))
 
-pub once_le : (f k : ℕ) (g : ℕ → ℕ) → 0 < g f → once (Some f) k ≤ g k
+once_le : (f k : ℕ) (g : ℕ → ℕ) → 0 < g f → once (Some f) k ≤ g k
 once_le f k g h = once_case f k (λ n. n ≤ g k) (λ e. subst (λ i. 0 < g i) e h) (λ _. omega arith)
 
-pub once_few : (o : Option ℕ) (k : ℕ) → once o k ≤ 1
+once_few : (o : Option ℕ) (k : ℕ) → once o k ≤ 1
 once_few None k = omega arith
 once_few (Some f) k = once_case f k (λ n. n ≤ 1) (λ _. omega arith) (λ _. omega arith)
 
@@ -174,7 +174,7 @@ module _ (rows : List Row) (k : ℕ) where
         sent_at_most_arrived = omega arith;
       }
 
-  pub bounded_booked : (slots : ℕ) (x : Outcome) → Bounded slots (at rows k) → Bounded (slots + 1) (booked_row x k (at rows k))
+  bounded_booked : (slots : ℕ) (x : Outcome) → Bounded slots (at rows k) → Bounded (slots + 1) (booked_row x k (at rows k))
   bounded_booked slots x b =
       record {
         arrived = b.arrived;

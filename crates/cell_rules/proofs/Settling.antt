@@ -51,7 +51,7 @@ module _ (rows : List Row) (clean : ℕ → Bool) where
     | inr l ↦ absurd (true≢false (sym e ∙ past_unable f l))
   ]
 
-  pub able_waits : (f : ℕ) → able rows clean f ≡ true → 0 < waiting (at rows f)
+  able_waits : (f : ℕ) → able rows clean f ≡ true → 0 < waiting (at rows f)
   able_waits f e = ltb-true 0 (waiting (at rows f)) (and_parts (ltb 0 (waiting (at rows f))) (clean f) e).0
 
   -- ## Who is idle
@@ -99,7 +99,7 @@ module _ (rows : List Row) (clean : ℕ → Bool) where
   may_bear m t LagUp s b = (b.2, b.3, sender_not t m s b.0)
   may_bear m t Forfeited s b = tt
 
-  pub right_settles :
+  right_settles :
       (o : Option ℕ) (t : Taking) (c : Charge) → ((m : ℕ) → o ≡ Some m → m < length rows)
       → Right o (t, c) → Settles rows o t c
   right_settles None t c inside r = (may_send t r.0, r.1)

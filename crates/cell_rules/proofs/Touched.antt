@@ -39,7 +39,7 @@ no_mark m LeadDown k e = let u = unnamed m k e in omega arith
 no_mark m LagUp k e = let u = unnamed m k e in omega arith
 no_mark m Forfeited k e = let u = unnamed m k e in omega arith
 
-pub untouched :
+untouched :
     (x : Outcome) (k : ℕ) (r : Row) → names x.marked k ≡ false → names (sender_of x.taking) k ≡ false → booked_row x k r ≡ r
 untouched x k r e d =
     let s = no_sender x.taking k d in

@@ -14,7 +14,7 @@ use Rattle.std.proofs.lemmas.List.Recursion.{same_from_clauses}
 use Rattle.std.proofs.lemmas.Iterator.Adapters.{option_map_id}
 use Rattle.reference.specs.Flows.{some, first, around}
 
-pub list_any_some : {A : Type 0} (p : A → Bool) (xs : List A) → list_any p xs ≡ some p xs
+list_any_some : {A : Type 0} (p : A → Bool) (xs : List A) → list_any p xs ≡ some p xs
 list_any_some p = same_from_clauses (list_any p) (some p) (λ x b. p x || b) refl (λ x xs. refl) (λ x xs. refl)
 
 -- what `any` answers over a slice, with p the test that it asks

@@ -6,7 +6,7 @@ use Rattle.std.specs.Option.{option_or}
 use Rattle.reference.specs.Flows.{some, first, around, away}
 
 module _ {A : Type 0} (p : A → Bool) (d : A) where
-  pub first_passes :
+  first_passes :
       (i : ℕ) (xs : List A) (f : ℕ)
       → first p i xs ≡ Some f
       → (k : ℕ) × (f ≡ i + k) × (k < length xs) × (p (get_or xs k d) ≡ true)
@@ -23,7 +23,7 @@ module _ {A : Type 0} (p : A → Bool) (d : A) where
           let m = more q in
           (suc m.0, omega (arith, m.1), omega (arith, m.2), m.3)
 
-  pub first_none : (i : ℕ) (xs : List A) → first p i xs ≡ None → (k : ℕ) → k < length xs → p (get_or xs k d) ≡ false
+  first_none : (i : ℕ) (xs : List A) → first p i xs ≡ None → (k : ℕ) → k < length xs → p (get_or xs k d) ≡ false
   first_none i [] e k h = absurd (omega arith)
   first_none i (x ∷ xs) e k h = split (p x) refl k h (first_none (i + 1) xs)
     where
@@ -36,7 +36,7 @@ module _ {A : Type 0} (p : A → Bool) (d : A) where
       split false g (suc k) h more = let q : first p (i + 1) xs ≡ None = rw g at e in more q k (omega arith)
 
   -- what the search passes over does not pass the test
-  pub first_passes_over :
+  first_passes_over :
       (i : ℕ) (xs : List A) (f : ℕ) → first p i xs ≡ Some f → (k : ℕ) → i + k < f → p (get_or xs k d) ≡ false
   first_passes_over i [] f e k l = let z : ◌≡◌ {A = ℕ} 0 1 = cc in absurd (omega arith)
   first_passes_over i (x ∷ xs) f e k l = split (p x) refl k l (first_passes_over (i + 1) xs f)

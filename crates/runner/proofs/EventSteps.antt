@@ -69,7 +69,7 @@ taken_gives old mid new e byte r whole same begun taken = go r taken
     go (Err x) h = λ rest. first rest ∙ ap (λ d. d.written ++ events own d.after rest) h
 
 -- what begins like no event is refused, whatever follows
-pub no_event : (s : State own) (e : ℕ) (rest : List ℕ) → e ≢ 0x41 → e ≢ 0x53 → events own (Some s) (e ∷ rest) ≡ refusal_bytes 16
+no_event : (s : State own) (e : ℕ) (rest : List ℕ) → e ≢ 0x41 → e ≢ 0x53 → events own (Some s) (e ∷ rest) ≡ refusal_bytes 16
 no_event s e [] no_arrival no_phase = refl
 no_event s e (a ∷ []) no_arrival no_phase = refl
 no_event s e (a ∷ b ∷ rest) no_arrival no_phase =

@@ -49,7 +49,7 @@ lines_aside None r x y = refl
 lines_aside (Some f) r x y = refl
 
 -- a table of these six bytes and others, as long as it says
-pub refused_alike :
+refused_alike :
     (h l v k p c : ℕ) (xs : List ℕ)
     → 68 < be_number (h ∷ l ∷ [])
     → 6 + length xs ≡ be_number (h ∷ l ∷ []) + 2

@@ -13,33 +13,33 @@ use Rattle.table.specs.Refusals.{fields_refusal, frame_refusal, lines_refusal, t
 use Rattle.runner.specs.Output.{output_by, output_of, refusal_bytes, table_part, events_part}
 
 -- the first two bytes tell the length, whatever follows
-pub front_tells : (b rest : List ℕ) → 2 ≤ length b → told_length (b ++ rest) ≡ told_length b
+front_tells : (b rest : List ℕ) → 2 ≤ length b → told_length (b ++ rest) ≡ told_length b
 front_tells [] rest h = absurd (omega (arith, h))
 front_tells (x ∷ []) rest h = absurd (omega (arith, h))
 front_tells (x ∷ y ∷ b) rest h = refl
 
 -- a whole table in front of other bytes
-pub table_in_front : (b rest : List ℕ) → length b ≡ told_length b + 2 → table_part (b ++ rest) ≡ b
+table_in_front : (b rest : List ℕ) → length b ≡ told_length b + 2 → table_part (b ++ rest) ≡ b
 table_in_front b rest e =
     let t = front_tells b rest (omega (arith, e)) in
     let n : told_length (b ++ rest) + 2 ≡ length b = omega (arith, e, t) in
     ap (λ k. take k (b ++ rest)) n ∙ take-append_seam b rest
 
-pub events_after : (b rest : List ℕ) → length b ≡ told_length b + 2 → events_part (b ++ rest) ≡ rest
+events_after : (b rest : List ℕ) → length b ≡ told_length b + 2 → events_part (b ++ rest) ≡ rest
 events_after b rest e =
     let t = front_tells b rest (omega (arith, e)) in
     let n : told_length (b ++ rest) + 2 ≡ length b = omega (arith, e, t) in
     ap (λ k. drop k (b ++ rest)) n ∙ drop-append_seam b rest
 
 -- what is written after a whole table
-pub output_after :
+output_after :
     (b rest : List ℕ) → length b ≡ told_length b + 2 → output_of (b ++ rest) ≡ output_by (table_refusal b) b rest
 output_after b rest e =
     let t = table_in_front b rest e in
     let v = events_after b rest e in
     ap (λ p. output_by (table_refusal p) p (events_part (b ++ rest))) t ∙ ap (output_by (table_refusal b) b) v
 
-pub table_refused_by_frame : (b : List ℕ) (r : Refusal) → frame_refusal b ≡ Some r → table_refusal b ≡ Some r
+table_refused_by_frame : (b : List ℕ) (r : Refusal) → frame_refusal b ≡ Some r → table_refusal b ≡ Some r
 table_refused_by_frame b r f =
     ap
     (λ o. option_or (option_or o (fields_refusal b (kind_numbered (byte_at b 3)))) (lines_refusal b (kind_numbered (byte_at b 3))))

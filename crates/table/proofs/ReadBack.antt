@@ -45,7 +45,7 @@ module _ (t : Table) where
   lines_unrefused : lines_refusal (table_bytes t) (Some t.kind) ≡ None
   lines_unrefused = ap (option_map (λ i. refusal_of 5 i InLine)) (none_from_fit t.kind 6 (flow_lines t) t.fit)
 
-  pub table_unrefused : table_refusal (table_bytes t) ≡ None
+  table_unrefused : table_refusal (table_bytes t) ≡ None
   table_unrefused =
       let k = kind_back t.kind in
       let a = frame_unrefused in
