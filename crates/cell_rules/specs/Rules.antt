@@ -256,6 +256,7 @@ pub record Reports : Type 0 where
   pub flagged : ℕ
   pub clean : ℕ
 
+-- whether bit f of a mask is set
 abbrev pub has : ℕ → ℕ → Bool
 has mask f = bit_at mask f == 1
 
@@ -263,6 +264,7 @@ has mask f = bit_at mask f == 1
 abbrev pub flags_clean : Reports → ℕ → Bool
 flags_clean set f = has set.flagged f && has set.clean f
 
+-- the set of a new control phase, for a slot of n flows
 abbrev pub opened : ℕ → ℕ → Reports
 opened slot n = record { slot = slot; flow_count = n; flagged = 0; clean = 0 }
 

@@ -28,6 +28,7 @@ use Rattle.fault.specs.declared.EventFault.TheVariants.{Unknown, CutShort}
 use Rattle.fault.specs.declared.RunFault.{RunFault}
 use Rattle.fault.specs.declared.RunFault.TheVariants.{Creation, Arrival, Opening, Event}
 
+-- the refusal with this number, at this byte, in this layer
 abbrev pub refusal_of : ℕ → ℕ → Layer → Refusal
 refusal_of n b l = record { number = n; byte = b; layer = l }
 

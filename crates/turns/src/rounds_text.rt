@@ -11,8 +11,11 @@ use words::SetupText;
 /// What the turns of two rounds marked, in lines for people.
 #[derive(Clone, Copy)]
 pub struct RoundsText<'a> {
+    /// The table that was read.
     pub table: Table,
+    /// Its own reference, after these turns.
     pub reference: &'a TableReference,
+    /// What each turn marked.
     pub marks: &'a [Option<u8>],
 }
 
