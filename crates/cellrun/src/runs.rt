@@ -657,7 +657,7 @@ pub(crate) const LONG_RUN_TABLE: [u8; 10] = [
     0x00, 0x08, 0x01, 0x01, 0x00, 0x01, 0x01, 0x00, 0x02, 0x02,
 ];
 
-/// Behind the table, this arrival comes so many times: 999,999,840 packets.
+/// After the table, this arrival comes so many times: 999,999,840 packets.
 pub(crate) const LONG_RUN_ARRIVAL: [u8; 3] = [0x41, 0x00, 0xff];
 
 /// How many times it comes.
