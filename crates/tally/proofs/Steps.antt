@@ -79,17 +79,14 @@ module _ (records : List Record) (r : Record) where
             i;
       }
 
--- counts are of some records, and with one more record still are
-pub no_records : CountRecords (counts_of [])
-no_records = ∣ record { records = []; counted = λ i. counts_of [] } ∣₁
-
+-- counts that are of some records have sixteen flows, and with one more record are of some still
 module _ (old : Counts) (h : CountRecords old) where
   pub sixteen_flows : length old.flows ≡ 16
-  sixteen_flows = ∥∥₁_elim h (Coded-set coded_ℕ _ _) (λ p. ap (λ c. length c.flows) p.counted)
+  sixteen_flows = ∥∥₁_elim h (Coded-set coded_ℕ _ _) (λ p. ap (λ c. length c.flows) p.are_theirs)
 
   pub one_more_record :
       (new : Counts) (r : Record) → length new.flows ≡ length old.flows → Added old r new → CountRecords new
   one_more_record new r sized added =
       ∥∥₁_map h
       (λ p.
-      record { records = p.records ++ r ∷ []; counted = counts_once_more p.records r old new p.counted sized added })
+      record { records = p.records ++ r ∷ []; are_theirs = counts_once_more p.records r old new p.are_theirs sized added })

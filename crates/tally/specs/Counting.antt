@@ -46,7 +46,8 @@ most_flows records = fold (λ n r. max n r.flow_count) 0 records
 abbrev pub nothing_counted : FlowTally
 nothing_counted = record { marked = 0; sent = 0; free = 0; forfeited = 0 }
 
--- all counts: of slots, of those in which nobody sends and that mark nobody, and of each flow
+-- all counts: of the slots, of those in which nobody sends, of those that mark nobody, and of each of sixteen flows;
+-- and the most flows that a record is of
 pub record Counts : Type 0 where
   pub slots : ℕ
   pub idle : ℕ
@@ -67,7 +68,7 @@ counts_of records =
 -- records of which these are the counts; and that there are such records
 pub record CountsOf (c : Counts) : Type 0 where
   pub records : List Record
-  pub counted : c ≡ counts_of records
+  pub are_theirs : c ≡ counts_of records
 
 abbrev pub CountRecords : Counts → Type 0
 CountRecords c = ∥ CountsOf c ∥₁
