@@ -27,8 +27,8 @@ impl Reference for RoundRobin {
 
     ghost sound = { held_sound };
 
-    // The questions read a field each, as those of Tags do: the trait is what both share, and one struct below both
-    // could not derive Copy (lib.rt).
+    // The questions read a field each, as those of Tags do: the trait is what both share, and one struct below both could not
+    // derive Copy (lib.rt).
     fn flow_count(&self) -> u8 {
         self.count
     }

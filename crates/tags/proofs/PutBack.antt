@@ -1,6 +1,6 @@
 -- What calls leave in an array whose front is worked on apart and put back, and what a question finds of no flow. These
--- theorems stood when the code worked on a part of the array and put it back. The code works on the whole array now and
--- cites none of them; a theorem that stood stays.
+-- theorems stood when the code worked on a part of the array and put it back. The code works on the whole array now and cites none of
+-- them; a theorem that stood stays.
 use Rattle.std.proofs.Common.{◌≡◌, ℕ, ◌*◌, ◌<◌, ◌≤◌, Bool, true, false, List, ◌++◌, length, take, drop, Some, None, Option, nat_lt, slice_set, refl, sym, ap, subst, ◌∙◌, arith, length-set}
 use Rattle.std.specs.List.{AllByRecursion}
 use Rattle.std.proofs.ByRecursion.{All-get_or}

@@ -31,8 +31,7 @@ impl Tags {
         ensures { tags_held self.new ≡ with_lookahead self.old.lookahead (settled (slice_set (tags_held self.old).stamps flow stamp)) }
     {
         self.stamps[usize::from(flow)] = stamp;
-        // The slice is taken of the array: `flows` would lend the whole value, which is not settled before the last
-        // line.
+        // The slice is taken of the array: `flows` would lend the whole value, which is not settled before the last line.
         let time = advance(&self.stamps[..usize::from(self.count)]);
         self.stamps = seen_from(self.stamps, time);
     }
