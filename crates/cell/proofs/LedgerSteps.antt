@@ -1,7 +1,8 @@
 -- Booking a slot in two steps, over the rows: the marked flow has its turn, and then the sender sends.
-use Rattle.std.proofs.Common.{◌≡◌, ℕ, ◌+◌, ◌-◌, ◌<◌, ◌≤◌, true, cond, eqb, List, length, set, Some, None, Option, refl, sym, ◌∙◌, ap, inl, inr, arith}
+use Rattle.std.proofs.Common.{◌≡◌, ℕ, ◌+◌, ◌<◌, ◌≤◌, true, eqb, List, length, set, Some, None, Option, refl, sym, ◌∙◌, ap, inl, inr, arith}
 use Rattle.std.proofs.lemmas.Bool.{eq-eqb, cases_lt}
 use Rattle.std.proofs.lemmas.List.{ext_get_or, get_or_past}
+use Rattle.record.specs.Accounts.{repaid_sender, charged_sender}
 use Rattle.record.specs.declared.taking.Charge.{Charge}
 use Rattle.record.specs.declared.taking.Charge.TheVariants.{Nothing, LeadDown, LagUp, Forfeited}
 use Rattle.record.specs.declared.taking.Taking.{Taking}
@@ -9,10 +10,11 @@ use Rattle.record.specs.declared.taking.Taking.TheVariants.{Idle, Own, LagRepaid
 use Rattle.record.specs.Pairs.{sender_of}
 use Rattle.table.specs.Lines.{no_line}
 use Rattle.cell_rules.specs.declared.row.Row.{Row}
-use Rattle.cell_rules.specs.Rules.{at, fresh, most, names, once, waiting, lead_down_of, lag_up_of, forfeited_by, repaid_to, charged_to, free_to, giving_after, booked_row, booked}
+use Rattle.cell_rules.specs.Rules.{at, fresh, most, once, waiting, booked_row, booked}
 use Rattle.cell_rules.specs.Facts.{KeptRows}
 use Rattle.cell_rules.specs.Bookable.{Bookable}
 use Rattle.cell_rules.proofs.Booking.{booked_length, booked_at, moves}
+use Rattle.cell_rules.proofs.Rows.{row_same}
 use Rattle.cell_rules.proofs.Touched.{two_rows}
 use Rattle.cell.specs.LedgerView.{outcome_of, turned_row, sent_row, TakingFits, SendFits}
 
@@ -63,28 +65,8 @@ module _ (rows : List Row) (m : Option ℕ) (t : Taking) (c : Charge) (h : Booka
   both_row =
       let r : Row = at rows k in
       let pays = (moves rows k m t c h).pays in
-      let marked : r.marked + once m k + 0 ≡ r.marked + once m k = omega arith in
-      let sent : r.sent + 0 + once (sender_of t) k ≡ r.sent + once (sender_of t) k = omega arith in
-      let free : r.free + 0 + once (free_to t) k ≡ r.free + once (free_to t) k = omega arith in
-      let forfeited : r.forfeited + once (forfeited_by c m) k + 0 ≡ r.forfeited + once (forfeited_by c m) k = omega arith in
-      let lead :
-      r.lead + 0 - once (lead_down_of c m) k + once (charged_to t) k - 0
-      ≡ r.lead + once (charged_to t) k - once (lead_down_of c m) k = omega arith in
-      let lag :
-      r.lag + once (lag_up_of c m) k - 0 + 0 - once (repaid_to t) k
-      ≡ r.lag + once (lag_up_of c m) k - once (repaid_to t) k = omega arith in
-      λ i. record {
-        arrived = r.arrived;
-        marked = marked i;
-        sent = sent i;
-        free = free i;
-        forfeited = forfeited i;
-        lead = lead i;
-        lag = lag i;
-        giving = cond (names m k) (giving_after r) r.giving;
-        lag_limit = r.lag_limit;
-        lead_limit = r.lead_limit;
-      }
+      row_same _ (booked_row (outcome_of m t c) k r) refl (omega arith) (omega arith) (omega arith) (omega arith) (omega arith)
+      (omega arith) refl refl refl
 
 module _ (rows : List Row) (m : Option ℕ) (t : Taking) (c : Charge) (h : Bookable rows (outcome_of m t c)) where
   pub both_booked :
@@ -124,7 +106,7 @@ module _ (rows : List Row) (m : Option ℕ) (t : Taking) (c : Charge) (h : Booka
   -- and its row, once the marked flow has had its turn, leaves room for what it sends
   taking_fits :
       (u : Taking) (f : ℕ) (r : Row) → sender_of u ≡ Some f
-      → once (repaid_to u) f ≤ r.lag → r.lead + once (charged_to u) f ≤ r.lead_limit
+      → once (repaid_sender u) f ≤ r.lag → r.lead + once (charged_sender u) f ≤ r.lead_limit
       → TakingFits u r
   taking_fits Idle f r e lag lead = cc
   taking_fits (Own g) f r e lag lead = tt

@@ -3,7 +3,6 @@ mod LeadersFound
 mod FirstLeader
 mod RingStays
 pub mod FlowSets
-pub mod LedgerFresh
 pub mod LedgerFront
 pub mod LedgerArrivals
 pub mod LedgerSteps

@@ -1,8 +1,8 @@
 -- A ring that finds no flow stays as it is.
-use Rattle.std.proofs.Common.{◌≡◌, ℕ, ◌-◌, Bool, true, false, cond, ◌&&◌, List, length, Some, None, Option, refl, nat_lt}
+use Rattle.std.proofs.Common.{◌≡◌, ℕ, ◌-◌, Bool, true, false, cond, List, length, Some, None, Option, refl}
 use Rattle.std.specs.List.{find}
 use Rattle.cell_rules.specs.declared.row.Row.{Row}
-use Rattle.cell_rules.specs.Rules.{Ring, ring_finds, moved_to, repayable, around}
+use Rattle.cell_rules.specs.Rules.{Ring, ring_finds, finds_again, moved_to, repayable, flows_around}
 
 module _ (rows : List Row) (clean : ℕ → Bool) (ring : Ring) where
   by :
@@ -15,5 +15,5 @@ module _ (rows : List Row) (clean : ℕ → Bool) (ring : Ring) where
 
   pub none_found : (ring_finds rows clean ring).0 ≡ None → (ring_finds rows clean ring).1 ≡ ring
   none_found =
-      by (repayable rows clean ring.pointer && nat_lt 0 ring.remainder) (find (repayable rows clean) (around (length rows) ring.pointer))
+      by (finds_again rows clean ring) (find (repayable rows clean) (flows_around (length rows) ring.pointer))
       (ring_finds rows clean ring) refl

@@ -33,14 +33,14 @@ module _ (M : Meaning) (s t : State M) where
   step_refused : (call : Call) (n : ℕ) → refusal M s call ≡ Some n → step M cell s call ≡ (s, refused n)
   step_refused call n e = ap (λ o. unless_refused M o s (accepted M cell s call)) e
 
-  pub arrival_is_a_step :
+  arrival_is_a_step :
       (f n : ℕ) (r : Result Unit ArrivalFault) → Arrived M s f n t r
       → step M cell s (arrival f n) ≡ (t, arrival_answer M r)
   arrival_is_a_step f n (Ok _) a = step_accepted (arrival f n) (t, done) a.0 (λ i. (sym a.1 i, done))
   arrival_is_a_step f n (Err e) a =
       step_refused (arrival f n) (arrival_number e) a.0 ∙ (λ i. (sym a.1 i, refused (arrival_number e)))
 
-  pub decision_is_a_step :
+  decision_is_a_step :
       (set : ReportSet) (r : Result Record (Refused DecisionFault ReportSet)) → Decided M s set t r
       → step M cell s (decision (reports_held set)) ≡ (t, decision_answer M s set t r)
   decision_is_a_step set (Ok r) d =

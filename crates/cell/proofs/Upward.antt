@@ -10,7 +10,7 @@ use Rattle.cell_rules.specs.Rules.{around, fresh, repayable}
 use Rattle.cell_rules.specs.declared.row.Row.{Row}
 
 -- the flows from i to n are flow i and those above it
-pub flows_from : (i n : ℕ) → i < n → range_with_len i (n - i) ≡ i ∷ range_with_len (i + 1) (n - (i + 1))
+flows_from : (i n : ℕ) → i < n → range_with_len i (n - i) ≡ i ∷ range_with_len (i + 1) (n - (i + 1))
 flows_from i n h = let e : n - i ≡ suc (n - (i + 1)) = omega arith in rw e
 
 module _ (test : ℕ → Bool) (i n : ℕ) where

@@ -1,8 +1,9 @@
 -- For which bytes no cell is created.
 use Rattle.std.specs.Prelude.{◌≡◌, ℕ, not, List, [], ◌∷◌, Some, None, Ok, Err, Option, Result, ◌==◌}
+use Rattle.std.specs.Option.{option_or}
 use Rattle.octets.specs.BigEndian.{byte_at}
-use Rattle.octets.specs.Conditions.{first_of, or_else}
-use Rattle.fault.specs.Faults.{refused, creation_told}
+use Rattle.octets.specs.Conditions.{first_of}
+use Rattle.fault.specs.Faults.{refusal_of, creation_told}
 use Rattle.fault.specs.declared.CreationFault.{CreationFault}
 use Rattle.fault.specs.declared.Layer.TheVariants.{Header}
 use Rattle.fault.specs.declared.Refusal.{Refusal}
@@ -14,8 +15,8 @@ use Rattle.table.specs.declared.Table.{Table}
 -- is told like a flow count that no table may have; and those of which a line is wrong
 abbrev pub creation_refusal : List ℕ → ℕ → Option Refusal
 creation_refusal b n =
-    or_else (header_refusal b)
-    (or_else (first_of ((not (byte_at b 5 == n), refused 4 5 Header) ∷ [])) (lines_refusal b (kind_numbered (byte_at b 3))))
+    option_or (header_refusal b)
+    (option_or (first_of ((not (byte_at b 5 == n), refusal_of 4 5 Header) ∷ [])) (lines_refusal b (kind_numbered (byte_at b 3))))
 
 -- reading a table of n flows
 abbrev pub TableFor : List ℕ → ℕ → Result Table CreationFault → Type 0

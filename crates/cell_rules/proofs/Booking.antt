@@ -1,13 +1,14 @@
 -- What booking does to the rows: it reaches each of them, and every flow keeps its facts.
 use Rattle.std.proofs.Common.{◌≡◌, ℕ, zero, suc, ◌+◌, ◌-◌, ◌<◌, ◌≤◌, min, max, false, cond, eqb, List, [], ◌∷◌, length, Some, None, Option, sym, refl, ap, ◌∙◌, subst, subst₂, inl, inr, add-zero, arith}
 use Rattle.std.proofs.lemmas.Bool.{cond_both, cond-false, eqb-true, eqb-false, ltb-true, leb-false}
+use Rattle.record.specs.Accounts.{names, repaid_sender, charged_sender, free_sender, lead_down_of, lag_up_of, forfeited_by}
 use Rattle.record.specs.declared.taking.Charge.{Charge}
 use Rattle.record.specs.declared.taking.Charge.TheVariants.{Nothing, LeadDown, LagUp, Forfeited}
 use Rattle.record.specs.declared.taking.Taking.{Taking}
 use Rattle.record.specs.declared.taking.Taking.TheVariants.{Idle, Own, LagRepaid, LeadCharged, Free}
 use Rattle.record.specs.Pairs.{sender_of}
 use Rattle.cell_rules.specs.declared.row.Row.{Row}
-use Rattle.cell_rules.specs.Rules.{Outcome, at, waiting, leads, designated, given, giving_after, names, once, repaid_to, charged_to, free_to, lead_down_of, lag_up_of, forfeited_by, booked_row, each, booked}
+use Rattle.cell_rules.specs.Rules.{Outcome, at, waiting, leads, designated, given, giving_after, once, booked_row, each, booked}
 use Rattle.cell_rules.specs.Facts.{Facts, Bounded, KeptRows}
 use Rattle.cell_rules.specs.Bookable.{MaySend, MayBear, Settles, Bookable}
 
@@ -34,10 +35,10 @@ booked_at x rows k h = each_at (booked_row x) 0 rows k h ∙ ap (λ i. booked_ro
 pub once_case : (f k : ℕ) (P : ℕ → Type 0) → (f ≡ k → P 1) → ((f ≡ k → ⊥) → P 0) → P (once (Some f) k)
 once_case f k P named other = cond_both (eqb f k) 1 0 P (λ e. named (eqb-true f k e)) (λ e. other (eqb-false f k e))
 
-pub once_le : (f k : ℕ) (g : ℕ → ℕ) → 0 < g f → once (Some f) k ≤ g k
+once_le : (f k : ℕ) (g : ℕ → ℕ) → 0 < g f → once (Some f) k ≤ g k
 once_le f k g h = once_case f k (λ n. n ≤ g k) (λ e. subst (λ i. 0 < g i) e h) (λ _. omega arith)
 
-pub once_few : (o : Option ℕ) (k : ℕ) → once o k ≤ 1
+once_few : (o : Option ℕ) (k : ℕ) → once o k ≤ 1
 once_few None k = omega arith
 once_few (Some f) k = once_case f k (λ n. n ≤ 1) (λ _. omega arith) (λ _. omega arith)
 
@@ -47,11 +48,11 @@ unnamed o k e = cond-false (names o k) 1 0 e
 module _ (rows : List Row) (k : ℕ) where
   -- what a sender does to the counts of flow k
   record Sends (t : Taking) : Type 0 where
-    on_account : once (sender_of t) k ≡ once (repaid_to t) k + once (charged_to t) k + once (free_to t) k
+    on_account : once (sender_of t) k ≡ once (repaid_sender t) k + once (charged_sender t) k + once (free_sender t) k
     waits : once (sender_of t) k ≤ waiting (at rows k)
-    repays : once (repaid_to t) k ≤ (at rows k).lag
-    leads : (at rows k).lead ≤ (at rows k).lead_limit → (at rows k).lead + once (charged_to t) k ≤ (at rows k).lead_limit
-    lags_not : min (at rows k).lead (at rows k).lag ≡ 0 → min (once (charged_to t) k) (at rows k).lag ≡ 0
+    repays : once (repaid_sender t) k ≤ (at rows k).lag
+    leads : (at rows k).lead ≤ (at rows k).lead_limit → (at rows k).lead + once (charged_sender t) k ≤ (at rows k).lead_limit
+    lags_not : min (at rows k).lead (at rows k).lag ≡ 0 → min (once (charged_sender t) k) (at rows k).lag ≡ 0
 
   sends : (t : Taking) → MaySend rows t → Sends t
   sends Idle h = omega arith
@@ -108,15 +109,15 @@ module _ (rows : List Row) (k : ℕ) where
   pub record Moves (m : Option ℕ) (t : Taking) (c : Charge) : Type 0 where
     pub balance :
         once (sender_of t) k + once (lead_down_of c m) k + once (lag_up_of c m) k + once (forfeited_by c m) k
-        ≡ once m k + once (repaid_to t) k + once (charged_to t) k + once (free_to t) k
+        ≡ once m k + once (repaid_sender t) k + once (charged_sender t) k + once (free_sender t) k
     pub waits : once (sender_of t) k ≤ waiting (at rows k)
-    pub repays : once (repaid_to t) k ≤ (at rows k).lag
+    pub repays : once (repaid_sender t) k ≤ (at rows k).lag
     pub pays : once (lead_down_of c m) k ≤ (at rows k).lead
-    pub leads : (at rows k).lead ≤ (at rows k).lead_limit → (at rows k).lead + once (charged_to t) k ≤ (at rows k).lead_limit
+    pub leads : (at rows k).lead ≤ (at rows k).lead_limit → (at rows k).lead + once (charged_sender t) k ≤ (at rows k).lead_limit
     pub owes : (at rows k).lag ≤ (at rows k).lag_limit → (at rows k).lag + once (lag_up_of c m) k ≤ (at rows k).lag_limit
-    pub lags_not : min (at rows k).lead (at rows k).lag ≡ 0 → min (once (charged_to t) k) (at rows k).lag ≡ 0
+    pub lags_not : min (at rows k).lead (at rows k).lag ≡ 0 → min (once (charged_sender t) k) (at rows k).lag ≡ 0
     pub leads_not : min (once (lag_up_of c m) k) (at rows k).lead ≡ 0
-    pub apart : once (lag_up_of c m) k + once (charged_to t) k ≤ 1
+    pub apart : once (lag_up_of c m) k + once (charged_sender t) k ≤ 1
 
   pub moves : (m : Option ℕ) (t : Taking) (c : Charge) → Settles rows m t c → Moves m t c
   moves None t c h =
@@ -173,12 +174,12 @@ module _ (rows : List Row) (k : ℕ) where
         sent_at_most_arrived = omega arith;
       }
 
-  pub bounded_booked : (slots : ℕ) (x : Outcome) → Bounded slots (at rows k) → Bounded (slots + 1) (booked_row x k (at rows k))
+  bounded_booked : (slots : ℕ) (x : Outcome) → Bounded slots (at rows k) → Bounded (slots + 1) (booked_row x k (at rows k))
   bounded_booked slots x b =
       record {
         arrived = b.arrived;
         marked = omega (arith, b.marked, once_few x.marked k);
-        free = omega (arith, b.free, once_few (free_to x.taking) k);
+        free = omega (arith, b.free, once_few (free_sender x.taking) k);
         forfeited = omega (arith, b.forfeited, once_few (forfeited_by x.charge x.marked) k);
       }
 

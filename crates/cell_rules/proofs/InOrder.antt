@@ -8,8 +8,8 @@ use Rattle.std.specs.Option.{option_or}
 use Rattle.order.specs.Fractions.{fractions_chain}
 use Rattle.reference.specs.Flows.{away}
 use Rattle.cell_rules.specs.declared.row.Row.{Row}
-use Rattle.cell_rules.specs.Rules.{Ring, at, flows, leads, lags, able, around, least, lowest_able, repayable, moved_to, ring_finds, can_lead_more, leads_less, can_start_to_lead, chargeable}
-use Rattle.cell_rules.specs.InOrder.{LowestAble, ChargedInOrder, finds_again, FoundAround}
+use Rattle.cell_rules.specs.Rules.{Ring, at, flows, leads, lags, able, flows_around, least, lowest_able, repayable, moved_to, ring_finds, finds_again, can_lead_more, leads_less, can_start_to_lead, chargeable}
+use Rattle.cell_rules.specs.InOrder.{LowestAble, ChargedInOrder, FoundAround}
 use Rattle.cell_rules.proofs.Settling.{able_inside}
 
 -- ## A search upward
@@ -135,7 +135,7 @@ module _ (p : ℕ → Bool) (n : ℕ) where
           (cases_lt g i),
     )
 
-    find_nearest : (q : ℕ) → Nearest (q + 1) (find p (around n q))
+    find_nearest : (q : ℕ) → Nearest (q + 1) (find p (flows_around n q))
     find_nearest q =
         subst (Nearest (q + 1)) (sym (find-append p (range_with_len (q + 1) (n - (q + 1))) (range_with_len 0 (q + 1))))
         (joined (q + 1) _ _ (find_lowest p (q + 1) (n - (q + 1))) (find_lowest p 0 (q + 1)))

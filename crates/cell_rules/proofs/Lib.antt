@@ -1,3 +1,4 @@
+pub mod Rows
 pub mod Found
 pub mod Settling
 pub mod Booking

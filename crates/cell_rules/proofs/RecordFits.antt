@@ -28,12 +28,12 @@ module _ (rows : List Row) (clean : ℕ → Bool) (ring : Ring) where
   module _ (m : ℕ) (inside : m < length rows) where
     -- a flow of the cell other than the marked one
     abbrev Other : ℕ → Type 0
-    Other f = (ltb f (length rows) ≡ true) × (eqb f m ≡ false)
+    Other f = (ltb f (length rows) ≡ true) × (eqb m f ≡ false)
 
     abbrev Fits : Taking × Charge → Type 0
     Fits x = FitsRecord (length rows) (Some m) x
 
-    other_fits : (f : ℕ) → Other f → (ltb m (length rows) && (ltb f (length rows) && not (eqb f m))) ≡ true
+    other_fits : (f : ℕ) → Other f → (ltb m (length rows) && (ltb f (length rows) && not (eqb m f))) ≡ true
     other_fits f o = let i = lt-ltb m (length rows) inside in let l = o.0 in let e = o.1 in rw (i, l, e)
 
     own_fits : Fits (Own m, Nothing)
@@ -45,12 +45,12 @@ module _ (rows : List Row) (clean : ℕ → Bool) (ring : Ring) where
     -- one who is able is another flow than a marked one that is not
     able_other : able rows clean m ≡ false → (f : ℕ) → able rows clean f ≡ true → Other f
     able_other un f a =
-        (of_the_cell f a, ne_eqb f m (λ e. true≢false (sym (subst (λ j. able rows clean j ≡ true) e a) ∙ un)))
+        (of_the_cell f a, ne_eqb m f (λ e. true≢false (sym (subst (λ j. able rows clean j ≡ true) (sym e) a) ∙ un)))
 
     -- and one who lags is another flow than a marked one that does not
     lagging_other : (at rows m).lag ≡ 0 → (f : ℕ) → Serves rows clean (LagRepaid f) → Other f
     lagging_other un f s =
-        (of_the_cell f s.0, ne_eqb f m (λ e. let l = subst (λ j. 0 < (at rows j).lag) e s.1 in omega arith))
+        (of_the_cell f s.0, ne_eqb m f (λ e. let l = subst (λ j. 0 < (at rows j).lag) (sym e) s.1 in omega arith))
 
     module _ (un : able rows clean m ≡ false) where
       ring_fits :

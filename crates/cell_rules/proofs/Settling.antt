@@ -3,6 +3,7 @@ use Rattle.std.proofs.Common.{◌≡◌, ℕ, ◌<◌, ◌≤◌, Bool, true, fa
 use Rattle.std.proofs.lemmas.Bool.{cond_both, and_parts, ltb-true, ltb-false, eqb-true, true≢false, cases_lt, ne_eqb}
 use Rattle.std.proofs.lemmas.List.{get_or_past}
 use Rattle.std.specs.Option.{option_map_or}
+use Rattle.record.specs.Accounts.{names}
 use Rattle.record.specs.declared.taking.Charge.{Charge}
 use Rattle.record.specs.declared.taking.Charge.TheVariants.{Nothing, LeadDown, LagUp, Forfeited}
 use Rattle.record.specs.declared.taking.Taking.{Taking}
@@ -10,7 +11,7 @@ use Rattle.record.specs.declared.taking.Taking.TheVariants.{Idle, Own, LagRepaid
 use Rattle.record.specs.Pairs.{sender_of}
 use Rattle.table.specs.Lines.{no_line}
 use Rattle.cell_rules.specs.declared.row.Row.{Row}
-use Rattle.cell_rules.specs.Rules.{Ring, at, fresh, waiting, flows, leads, lags, in_sync, able, around, lowest_able, repayable, moved_to, ring_finds, can_lead_more, can_start_to_lead, leads_less, chargeable, names, ring_or, chargeable_or, lowest_able_or_idle, designated, leading_slot, owing_slot, forfeited_slot, slot_of}
+use Rattle.cell_rules.specs.Rules.{Ring, at, fresh, waiting, flows, leads, lags, in_sync, able, flows_around, lowest_able, repayable, moved_to, ring_finds, finds_again, can_lead_more, can_start_to_lead, leads_less, chargeable, ring_or, chargeable_or, lowest_able_or_idle, designated, leading_slot, owing_slot, forfeited_slot, slot_of}
 use Rattle.cell_rules.specs.Bookable.{MaySend, MayBear, Settles}
 use Rattle.cell_rules.proofs.Found.{Found, Missed, found_as, find_found, find_missed, least_found, either_found, all_in_range, map_or_both}
 
@@ -50,7 +51,7 @@ module _ (rows : List Row) (clean : ℕ → Bool) where
     | inr l ↦ absurd (true≢false (sym e ∙ past_unable f l))
   ]
 
-  pub able_waits : (f : ℕ) → able rows clean f ≡ true → 0 < waiting (at rows f)
+  able_waits : (f : ℕ) → able rows clean f ≡ true → 0 < waiting (at rows f)
   able_waits f e = ltb-true 0 (waiting (at rows f)) (and_parts (ltb 0 (waiting (at rows f))) (clean f) e).0
 
   -- ## Who is idle
@@ -98,7 +99,7 @@ module _ (rows : List Row) (clean : ℕ → Bool) where
   may_bear m t LagUp s b = (b.2, b.3, sender_not t m s b.0)
   may_bear m t Forfeited s b = tt
 
-  pub right_settles :
+  right_settles :
       (o : Option ℕ) (t : Taking) (c : Charge) → ((m : ℕ) → o ≡ Some m → m < length rows)
       → Right o (t, c) → Settles rows o t c
   right_settles None t c inside r = (may_send t r.0, r.1)
@@ -135,9 +136,9 @@ module _ (rows : List Row) (clean : ℕ → Bool) where
     ring_found =
         let test : ℕ → Bool = repayable rows clean in
         found_as (λ f. test f ≡ true) (λ f. Serves (LagRepaid f)) repays (ring_finds rows clean ring).0
-        (cond_both (test ring.pointer && ltb 0 ring.remainder) _ _ (λ (x : Option ℕ × Ring). Found (λ f. test f ≡ true) x.0)
+        (cond_both (finds_again rows clean ring) _ _ (λ (x : Option ℕ × Ring). Found (λ f. test f ≡ true) x.0)
         (λ e. (and_parts (test ring.pointer) (ltb 0 ring.remainder) e).0)
-        (λ _. moved_found (λ f. test f ≡ true) _ (find_found test (around (length rows) ring.pointer))))
+        (λ _. moved_found (λ f. test f ≡ true) _ (find_found test (flows_around (length rows) ring.pointer))))
 
     pub charge_found : Found (λ f. Serves (LeadCharged f)) (chargeable rows clean)
     charge_found =

@@ -1,7 +1,8 @@
 -- Booking touches the rows of the marked flow and of the sender, and no other: code may store two rows.
-use Rattle.std.proofs.Common.{◌≡◌, ℕ, ◌+◌, ◌-◌, ◌<◌, false, cond, List, length, set, Some, None, Option, sym, refl, ◌∙◌, subst, inl, inr, arith}
+use Rattle.std.proofs.Common.{◌≡◌, ℕ, ◌<◌, false, List, length, set, Some, None, Option, sym, refl, ◌∙◌, subst, inl, inr, arith}
 use Rattle.std.proofs.lemmas.Bool.{cond-false, ne_eqb, cases_eq}
 use Rattle.std.proofs.lemmas.List.{ext_get_or, length-set, get_or-set_same, get_or-set_other}
+use Rattle.record.specs.Accounts.{names, repaid_sender, charged_sender, free_sender, lead_down_of, lag_up_of, forfeited_by}
 use Rattle.record.specs.declared.taking.Charge.{Charge}
 use Rattle.record.specs.declared.taking.Charge.TheVariants.{Nothing, LeadDown, LagUp, Forfeited}
 use Rattle.record.specs.declared.taking.Taking.{Taking}
@@ -9,8 +10,9 @@ use Rattle.record.specs.declared.taking.Taking.TheVariants.{Idle, Own, LagRepaid
 use Rattle.record.specs.Pairs.{sender_of}
 use Rattle.table.specs.Lines.{no_line}
 use Rattle.cell_rules.specs.declared.row.Row.{Row}
-use Rattle.cell_rules.specs.Rules.{Outcome, at, fresh, names, once, repaid_to, charged_to, free_to, lead_down_of, lag_up_of, forfeited_by, giving_after, booked_row, booked}
+use Rattle.cell_rules.specs.Rules.{Outcome, at, fresh, once, giving_after, booked_row, booked}
 use Rattle.cell_rules.proofs.Booking.{booked_length, booked_at, unnamed}
+use Rattle.cell_rules.proofs.Rows.{row_same}
 
 pub set_row :
     (rows : List Row) (f k : ℕ) (x : Row) (P : Row → Type 0) → f < length rows
@@ -22,7 +24,7 @@ set_row rows f k x P h same other = elim (cases_eq k f) [
 
 no_sender :
     (t : Taking) (k : ℕ) → names (sender_of t) k ≡ false
-    → (once (sender_of t) k ≡ 0) × (once (free_to t) k ≡ 0) × (once (charged_to t) k ≡ 0) × (once (repaid_to t) k ≡ 0)
+    → (once (sender_of t) k ≡ 0) × (once (free_sender t) k ≡ 0) × (once (charged_sender t) k ≡ 0) × (once (repaid_sender t) k ≡ 0)
 no_sender Idle k e = omega arith
 no_sender (Own f) k e = let u = unnamed (Some f) k e in omega arith
 no_sender (LagRepaid f) k e = let u = unnamed (Some f) k e in omega arith
@@ -37,31 +39,13 @@ no_mark m LeadDown k e = let u = unnamed m k e in omega arith
 no_mark m LagUp k e = let u = unnamed m k e in omega arith
 no_mark m Forfeited k e = let u = unnamed m k e in omega arith
 
-pub untouched :
+untouched :
     (x : Outcome) (k : ℕ) (r : Row) → names x.marked k ≡ false → names (sender_of x.taking) k ≡ false → booked_row x k r ≡ r
 untouched x k r e d =
     let s = no_sender x.taking k d in
     let m = no_mark x.marked x.charge k e in
-    let marked : r.marked + once x.marked k ≡ r.marked = omega arith in
-    let sent : r.sent + once (sender_of x.taking) k ≡ r.sent = omega arith in
-    let free : r.free + once (free_to x.taking) k ≡ r.free = omega arith in
-    let forfeited : r.forfeited + once (forfeited_by x.charge x.marked) k ≡ r.forfeited = omega arith in
-    let lead : r.lead + once (charged_to x.taking) k - once (lead_down_of x.charge x.marked) k ≡ r.lead = omega arith in
-    let lag : r.lag + once (lag_up_of x.charge x.marked) k - once (repaid_to x.taking) k ≡ r.lag = omega arith in
-    let giving : cond (names x.marked k) (giving_after r) r.giving ≡ r.giving
-    = cond-false (names x.marked k) (giving_after r) r.giving e in
-    λ i. record {
-      arrived = r.arrived;
-      marked = marked i;
-      sent = sent i;
-      free = free i;
-      forfeited = forfeited i;
-      lead = lead i;
-      lag = lag i;
-      giving = giving i;
-      lag_limit = r.lag_limit;
-      lead_limit = r.lead_limit;
-    }
+    row_same (booked_row x k r) r refl (omega arith) (omega arith) (omega arith) (omega arith) (omega arith) (omega arith)
+    (cond-false (names x.marked k) (giving_after r) r.giving e) refl refl
 
 -- the row of a flow that is named, if one is, in its booked form
 abbrev pub put : Option ℕ → Outcome → List Row → List Row → List Row

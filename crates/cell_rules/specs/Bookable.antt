@@ -1,12 +1,13 @@
 -- Which outcomes of a slot can be booked: the accounts on which a flow may send, and the charges that a marked flow may
 -- bear, so that every flow keeps its facts.
 use Rattle.std.specs.Prelude.{◌≡◌, ℕ, ◌<◌, false, ◌⊎◌, List, length, Some, None, Option}
+use Rattle.record.specs.Accounts.{names}
 use Rattle.record.specs.declared.taking.Charge.{Charge}
 use Rattle.record.specs.declared.taking.Charge.TheVariants.{Nothing, LeadDown, LagUp, Forfeited}
 use Rattle.record.specs.declared.taking.Taking.{Taking}
 use Rattle.record.specs.declared.taking.Taking.TheVariants.{Idle, Own, LagRepaid, LeadCharged, Free}
 use Rattle.record.specs.Pairs.{sender_of}
-use Rattle.cell_rules.specs.Rules.{Outcome, at, waiting, names}
+use Rattle.cell_rules.specs.Rules.{Outcome, at, waiting}
 use Rattle.cell_rules.specs.declared.row.Row.{Row}
 
 module _ (rows : List Row) where

@@ -1,11 +1,12 @@
 -- The rules of a cell, in the order in which docs/RULES.md says them in prose. What happens follows from what the
 -- reference holds, the rows of the flows, the ring, the number of the slot, and which flows are clean.
-use Rattle.std.specs.Prelude.{ℕ, zero, suc, ◌+◌, ◌-◌, ◌*◌, ◌/◌, ◌^◌, Bool, false, cond, not, ◌&&◌, List, [], ◌∷◌, ◌++◌, map, length, Some, None, Option, ◌==◌, nat_le, nat_lt, slice_index_or, slice_set}
+use Rattle.std.specs.Prelude.{ℕ, zero, suc, ◌+◌, ◌-◌, ◌*◌, ◌/◌, ◌^◌, Bool, cond, not, ◌&&◌, List, [], ◌∷◌, ◌++◌, map, length, Some, None, Option, ◌==◌, nat_le, nat_lt, slice_index_or, slice_set}
 use Rattle.std.specs.Int.{bit_at}
 use Rattle.std.specs.Int.RustNames.{bit_or}
 use Rattle.std.specs.List.{best_of, filter, find, range_with_len}
 use Rattle.std.specs.Option.{option_map_or, option_or}
 use Rattle.octets.specs.Conditions.{first_of}
+use Rattle.record.specs.Accounts.{names, repaid_sender, charged_sender, free_sender, lead_down_of, lag_up_of, forfeited_by}
 use Rattle.record.specs.declared.taking.Charge.{Charge}
 use Rattle.record.specs.declared.taking.Charge.TheVariants.{Nothing, LeadDown, LagUp, Forfeited}
 use Rattle.record.specs.declared.taking.Taking.{Taking}
@@ -58,8 +59,8 @@ lags r = nat_lt 0 r.lag
 abbrev pub in_sync : Row → Bool
 in_sync r = r.lead == 0 && r.lag == 0
 
--- At its mark, a leading flow's lead is added to giving. If that is then at least the lead limit, the slot is designated,
--- that is, meant for a lagging flow, and the limit is subtracted.
+-- At its mark, a leading flow's lead is added to giving. If that is then at least the lead limit, the slot is
+-- designated, that is, meant for a lagging flow, and the limit is subtracted.
 abbrev pub given : Row → ℕ
 given r = r.giving + r.lead
 
@@ -81,8 +82,8 @@ abbrev pub first_ring : ℕ → Ring
 first_ring n = record { pointer = n - 1; remainder = 0 }
 
 -- all n flows, from the one that follows flow p, around, ending at p
-abbrev pub around : ℕ → ℕ → List ℕ
-around n p = range_with_len (p + 1) (n - (p + 1)) ++ range_with_len 0 (p + 1)
+abbrev pub flows_around : ℕ → ℕ → List ℕ
+flows_around n p = range_with_len (p + 1) (n - (p + 1)) ++ range_with_len 0 (p + 1)
 
 -- ## Who can send, by the rows as they are before the slot, and by which flows are clean in it
 
@@ -105,18 +106,22 @@ module _ (rows : List Row) (clean : ℕ → Bool) where
 
   -- the first such flow, from the one that follows flow p around
   abbrev pub next_around : ℕ → Option ℕ
-  next_around p = find repayable (around (length rows) p)
+  next_around p = find repayable (flows_around (length rows) p)
 
-  -- the flow that the ring looked for, and the ring there, with a quarter of its lag before this slot; or none, and the ring
-  -- as it was
+  -- the flow that the ring looked for, and the ring there, with a quarter of its lag before this slot; or none, and the
+  -- ring as it was
   abbrev pub moved_to : Ring → Option ℕ → Option ℕ × Ring
   moved_to ring None = (None, ring)
   moved_to ring (Some f) = (Some f, record { pointer = f; remainder = (at rows f).lag / 4 })
 
+  -- the pointed flow is lagging and able, and has slots left
+  abbrev pub finds_again : Ring → Bool
+  finds_again ring = repayable ring.pointer && nat_lt 0 ring.remainder
+
   -- the flow that the ring finds, and the ring once that flow sends
   abbrev pub ring_finds : Ring → Option ℕ × Ring
   ring_finds ring =
-      cond (repayable ring.pointer && nat_lt 0 ring.remainder)
+      cond (finds_again ring)
       (Some ring.pointer, record { pointer = ring.pointer; remainder = ring.remainder - 1 })
       (moved_to ring (next_around ring.pointer))
 
@@ -161,8 +166,8 @@ module _ (rows : List Row) (clean : ℕ → Bool) where
     abbrev pub ring_or : Taking → Taking
     ring_or other = option_map_or LagRepaid (ring_finds rows clean ring).0 other
 
-    -- a slot that no marked flow uses: the ring's flow, else the lowest able flow; and one in which a chargeable flow comes
-    -- between these
+    -- a slot that no marked flow uses: the ring's flow, else the lowest able flow; and one in which a chargeable flow
+    -- comes between these
     abbrev pub repaid_or_free : Taking
     repaid_or_free = ring_or lowest_able_or_idle
 
@@ -206,52 +211,7 @@ pub record Outcome : Type 0 where
   pub taking : Taking
   pub charge : Charge
 
--- the sender, if it is paid back lag, if it is charged lead, or if it sends free
-abbrev pub repaid_to : Taking → Option ℕ
-repaid_to Idle = None
-repaid_to (Own f) = None
-repaid_to (LagRepaid f) = Some f
-repaid_to (LeadCharged f) = None
-repaid_to (Free f) = None
-
-abbrev pub charged_to : Taking → Option ℕ
-charged_to Idle = None
-charged_to (Own f) = None
-charged_to (LagRepaid f) = None
-charged_to (LeadCharged f) = Some f
-charged_to (Free f) = None
-
-abbrev pub free_to : Taking → Option ℕ
-free_to Idle = None
-free_to (Own f) = None
-free_to (LagRepaid f) = None
-free_to (LeadCharged f) = None
-free_to (Free f) = Some f
-
--- the marked flow, if it leads by one less, lags by one more, or forfeits
-abbrev pub lead_down_of : Charge → Option ℕ → Option ℕ
-lead_down_of Nothing m = None
-lead_down_of LeadDown m = m
-lead_down_of LagUp m = None
-lead_down_of Forfeited m = None
-
-abbrev pub lag_up_of : Charge → Option ℕ → Option ℕ
-lag_up_of Nothing m = None
-lag_up_of LeadDown m = None
-lag_up_of LagUp m = m
-lag_up_of Forfeited m = None
-
-abbrev pub forfeited_by : Charge → Option ℕ → Option ℕ
-forfeited_by Nothing m = None
-forfeited_by LeadDown m = None
-forfeited_by LagUp m = None
-forfeited_by Forfeited m = m
-
--- whether a flow is the one that is named, and 1 or 0 for that
-abbrev pub names : Option ℕ → ℕ → Bool
-names None f = false
-names (Some g) f = g == f
-
+-- 1 if a flow is the one that is named, and 0 if not
 abbrev pub once : Option ℕ → ℕ → ℕ
 once named f = cond (names named f) 1 0
 
@@ -262,10 +222,10 @@ booked_row x f r =
       arrived = r.arrived;
       marked = r.marked + once x.marked f;
       sent = r.sent + once (sender_of x.taking) f;
-      free = r.free + once (free_to x.taking) f;
+      free = r.free + once (free_sender x.taking) f;
       forfeited = r.forfeited + once (forfeited_by x.charge x.marked) f;
-      lead = r.lead + once (charged_to x.taking) f - once (lead_down_of x.charge x.marked) f;
-      lag = r.lag + once (lag_up_of x.charge x.marked) f - once (repaid_to x.taking) f;
+      lead = r.lead + once (charged_sender x.taking) f - once (lead_down_of x.charge x.marked) f;
+      lag = r.lag + once (lag_up_of x.charge x.marked) f - once (repaid_sender x.taking) f;
       giving = cond (names x.marked f) (giving_after r) r.giving;
       lag_limit = r.lag_limit;
       lead_limit = r.lead_limit;
@@ -296,6 +256,7 @@ pub record Reports : Type 0 where
   pub flagged : ℕ
   pub clean : ℕ
 
+-- whether bit f of a mask is set
 abbrev pub has : ℕ → ℕ → Bool
 has mask f = bit_at mask f == 1
 
@@ -303,6 +264,7 @@ has mask f = bit_at mask f == 1
 abbrev pub flags_clean : Reports → ℕ → Bool
 flags_clean set f = has set.flagged f && has set.clean f
 
+-- the set of a new control phase, for a slot of n flows
 abbrev pub opened : ℕ → ℕ → Reports
 opened slot n = record { slot = slot; flow_count = n; flagged = 0; clean = 0 }
 

@@ -1,5 +1,5 @@
-//! The rules of a cell: definitions of what happens in a slot and at every other call, what follows of one slot, and the
-//! row of plain numbers that is kept of each flow.
+//! The rules of a cell: definitions of what happens in a slot and at every other call, what follows of one slot, and
+//! the row of plain numbers that is kept of each flow.
 
 #![tactic(auto)]
 

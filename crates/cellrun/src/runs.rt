@@ -430,7 +430,7 @@ pub(crate) const RUNS: [(&[u8], &[u8]); 35] = [
         ],
         &[0x00, 0x02, 0x01, 0x01],
     ),
-    // A length that is too small for a header, with events behind it: refused by 1.
+    // A length that is too small for a header, with events after it: refused by 1.
     (
         &[
             0x00, 0x03, 0x01, 0x01, 0x00, 0x41, 0x00, 0x03, 0x41, 0x01, 0x02, 0x53, 0x00, 0x03,
@@ -570,7 +570,7 @@ pub(crate) const RUNS: [(&[u8], &[u8]); 35] = [
         ],
         &[0x00, 0x02, 0x01, 0x05],
     ),
-    // An arrival for flow 2 of two, and a phase behind it that is not read: refused by 6.
+    // An arrival for flow 2 of two, and a phase after it that is not read: refused by 6.
     (
         &[
             0x00, 0x0c, 0x01, 0x01, 0x00, 0x02, 0x01, 0x00, 0x02, 0x02, 0x01, 0x00, 0x02, 0x02,
@@ -589,7 +589,7 @@ pub(crate) const RUNS: [(&[u8], &[u8]); 35] = [
         ],
         &[0x00, 0x02, 0x01, 0x06],
     ),
-    // An unknown event, and a phase behind it that is not read: refused by 16.
+    // An unknown event, and a phase after it that is not read: refused by 16.
     (
         &[
             0x00, 0x0c, 0x01, 0x01, 0x00, 0x02, 0x01, 0x00, 0x02, 0x02, 0x01, 0x00, 0x02, 0x02,
@@ -645,7 +645,7 @@ pub(crate) const RUNS: [(&[u8], &[u8]); 35] = [
             0x01, 0x01, 0x00, 0x03, 0x02, 0x02, 0x00, 0x00, 0x00, 0x01, 0x00, 0x02, 0x01, 0x10,
         ],
     ),
-    // A table and nothing behind it: nothing is written.
+    // A table and nothing after it: nothing is written.
     (
         &[0x00, 0x08, 0x01, 0x02, 0x03, 0x01, 0x02, 0x05, 0x03, 0x04],
         &[],
@@ -657,7 +657,7 @@ pub(crate) const LONG_RUN_TABLE: [u8; 10] = [
     0x00, 0x08, 0x01, 0x01, 0x00, 0x01, 0x01, 0x00, 0x02, 0x02,
 ];
 
-/// Behind the table, this arrival comes so many times: 999,999,840 packets.
+/// After the table, this arrival comes so many times: 999,999,840 packets.
 pub(crate) const LONG_RUN_ARRIVAL: [u8; 3] = [0x41, 0x00, 0xff];
 
 /// How many times it comes.

@@ -85,7 +85,7 @@ fn an_input_that_falters(rt: HostRuntime) -> Result<(), Fail> {
 }
 
 #[test]
-fn nothing_is_read_behind_a_refusal(rt: HostRuntime) -> Result<(), Fail> {
+fn nothing_is_read_after_a_refusal(rt: HostRuntime) -> Result<(), Fail> {
     let mut output = Vec::new(rt.alloc());
     let mut faltering = Faltering {
         rest: &[

@@ -1,4 +1,4 @@
-use percent::tenths_of_percent;
+use percent::{Tenths, tenths_of_percent};
 use std::fmt;
 use tally::{FlowTally, Tally};
 
@@ -25,12 +25,10 @@ fn write_flow<W: fmt::Write>(
         forfeited,
     } = *counts;
     // 0 of no slot; it never comes to that: a flow is told only where a record names its number of flows.
-    let tenths = tenths_of_percent(sent, slots).unwrap_or(0);
-    let whole = tenths / 10;
-    let rest = tenths % 10;
+    let percent = Tenths(tenths_of_percent(sent, slots).unwrap_or(0));
     writeln!(
         f,
-        "{flow:>4}  {marked:>10}  {sent:>10}  {free:>10}  {forfeited:>10}  {whole:>10}.{rest} %"
+        "{flow:>4}  {marked:>10}  {sent:>10}  {free:>10}  {forfeited:>10}  {percent:>12} %"
     )
 }
 

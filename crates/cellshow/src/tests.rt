@@ -188,7 +188,7 @@ fn more_records_than_are_read_at_once(rt: HostRuntime) -> Result<(), Fail> {
     Ok(())
 }
 
-/// An input that fails behind its bytes.
+/// An input that fails after its bytes.
 #[derive(Drop)]
 struct FailsAfter(&'static [u8]);
 

@@ -1,6 +1,6 @@
 ghost use Rattle.std.specs.Prelude.{◌<◌};
 
-use percent::tenths_of_percent;
+use percent::{Tenths, tenths_of_percent};
 use std::fmt;
 use wire::{Line, Table};
 use words::SetupText;
@@ -25,12 +25,10 @@ impl TableText {
             lag_limit,
             lead_limit,
         } = *line;
-        let tenths = tenths_of_percent(u64::from(weight), u64::from(total)).unwrap();
-        let whole = tenths / 10;
-        let rest = tenths % 10;
+        let percent = Tenths(tenths_of_percent(u64::from(weight), u64::from(total)).unwrap());
         writeln!(
             f,
-            "{flow:>4}  {weight:>6}  {delay_weight:>12}  {lag_limit:>9}  {lead_limit:>10}  {weight:>3}/{total:<3}  {whole:>3}.{rest} %"
+            "{flow:>4}  {weight:>6}  {delay_weight:>12}  {lag_limit:>9}  {lead_limit:>10}  {weight:>3}/{total:<3}  {percent:>5} %"
         )
     }
 }

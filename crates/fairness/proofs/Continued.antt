@@ -69,7 +69,7 @@ module _ (M : Meaning) (L : Lawful M) (s : State M) where
       subst (λ x. length x.rows ≡ M.flows x.held) p.leads_here
       (fair.as_many_flows cell ∙ sym (fair.reference_tells_the_same cell).flows)
 
-  pub flows_agree : HasPast M s → length s.rows ≡ M.flows s.held
+  flows_agree : HasPast M s → length s.rows ≡ M.flows s.held
   flows_agree h = ∥∥₁_elim h (Coded-set coded_ℕ _ _) flows_agree_by
 
   mark_inside : (m : Option ℕ) → M.marks s.held ≡ m → HasPast M s → M.Sound s.held → IfSome m (λ f. f < length s.rows)

@@ -2,20 +2,22 @@
 use Rattle.std.proofs.Common.{All, ◌≡◌, ℕ, ◌+◌, ◌*◌, ◌<◌, ◌≤◌, Bool, false, cond, ltb, List, length, get_or, count_by, sym, refl, ap, ◌∙◌, subst, inl, inr, mul-le-mul_right, zero-mul, arith}
 use Rattle.std.proofs.lemmas.List.Elements.{All-from_recursion, recursion_from_All}
 use Rattle.std.proofs.lemmas.Bool.{and_left, and_right, and_cases, and_parts, ltb-true, lt-ltb, le-ltb, cases_lt, both_ways}
+use Rattle.record.specs.Accounts.{names, free_sender, forfeited_by}
 use Rattle.record.specs.Pairs.{sender_of}
 use Rattle.reference.specs.Meaning.{Meaning, Lawful}
 use Rattle.table.specs.declared.line.Line.{Line}
 use Rattle.table.specs.Lines.{no_line}
 use Rattle.cell_rules.specs.declared.row.Row.{Row}
-use Rattle.cell_rules.specs.Rules.{State, Outcome, Reports, at, fresh, waiting, able, names, free_to, forfeited_by, booked_row, with_arrived, slot_of, flags_clean, created}
+use Rattle.cell_rules.specs.Rules.{State, Outcome, Reports, at, fresh, waiting, able, booked_row, with_arrived, slot_of, flags_clean, created}
 use Rattle.cell_rules.proofs.Settling.{idle_exactly, slot_right}
 use Rattle.cell_rules.proofs.Booking.{booked_at}
+use Rattle.cell_rules.proofs.Rows.{fresh_at}
 use Rattle.fairness.specs.Past.{Which, Call, Decision, after, deciding, packets_accepted}
 use Rattle.fairness.specs.Past.Which.{cell, twin}
 use Rattle.fairness.specs.Fairness.{ByTheRules, IdleExactlyWhenNobodyCanSend, SenderWaitsAndIsClean, LagsOrForfeitsOnlyIfItCannotSend, ForfeitsOnlyIfNobodySendsOnAccount, LeaderIsChargedALeadOrNothing, SendsItsMark, CleanIn, DueAround, CountsAreTotals, decisions_of, CleanThroughout, DueWithoutABreak, Fair, FairInEveryPast}
 use Rattle.fairness.proofs.Runs.{slots_counted, kept, always, each_decision, counted}
 use Rattle.fairness.proofs.Arrivals.{arrivals_counted}
-use Rattle.fairness.proofs.Keeping.{fresh_at, arrived_at, Whole, created_whole, decided_right, whole_always}
+use Rattle.fairness.proofs.Keeping.{arrived_at, Whole, created_whole, decided_right, whole_always}
 use Rattle.fairness.proofs.Twin.{InTurn, Twin, twin_always, twin_sends}
 use Rattle.fairness.proofs.Same.{same_self, AlikeFrom, alike}
 use Rattle.fairness.proofs.NotBehind.{Level, CleanKept, clean_keeps, marked_at_most_sent}
@@ -130,7 +132,7 @@ module _ (M : Meaning) (L : Lawful M) (h : M.Held) (sound : M.Sound h)
         record {
           marked = totals (λ r. r.marked) (λ x. names x.marked f) (λ _ _. refl) (λ _ _. refl) (λ _. refl) w;
           sent = totals (λ r. r.sent) (λ x. names (sender_of x.taking) f) (λ _ _. refl) (λ _ _. refl) (λ _. refl) w;
-          free = totals (λ r. r.free) (λ x. names (free_to x.taking) f) (λ _ _. refl) (λ _ _. refl) (λ _. refl) w;
+          free = totals (λ r. r.free) (λ x. names (free_sender x.taking) f) (λ _ _. refl) (λ _ _. refl) (λ _. refl) w;
           forfeited =
               totals (λ r. r.forfeited) (λ x. names (forfeited_by x.charge x.marked) f) (λ _ _. refl) (λ _ _. refl) (λ _. refl) w;
         }

@@ -1,4 +1,5 @@
--- A waiting flow below its lag limit forfeits only where nobody can take its turn on account, and one that leads never does.
+-- A waiting flow below its lag limit forfeits only where nobody can take its turn on account, and one that leads never
+-- does.
 use Rattle.std.proofs.Common.{◌≡◌, ℕ, ◌<◌, Bool, cond, ◌&&◌, true, false, ◌⊎◌, ltb, List, Some, None, Option, sym, refl, subst, inl, inr}
 use Rattle.std.proofs.lemmas.Bool.{cond_both, and_from, lt-ltb, both_ways}
 use Rattle.std.proofs.lemmas.Option.{same_Some}

@@ -1,5 +1,5 @@
 -- What every call keeps, in the cell and in its twin: who is due, and the facts of every flow.
-use Rattle.std.proofs.Common.{◌≡◌, ◌≢◌, ℕ, zero, suc, ◌+◌, ◌-◌, ◌<◌, ◌≤◌, Bool, true, false, cond, ◌&&◌, eqb, ltb, List, [], ◌∷◌, map, length, get_or, Some, None, Option, sym, refl, ◌∙◌, subst, inl, inr, add-zero, arith}
+use Rattle.std.proofs.Common.{◌≡◌, ◌≢◌, ℕ, zero, suc, ◌+◌, ◌-◌, ◌<◌, ◌≤◌, Bool, true, false, cond, ◌&&◌, eqb, ltb, List, map, length, get_or, Some, None, Option, sym, refl, ◌∙◌, subst, inl, inr, add-zero, arith}
 use Rattle.std.proofs.lemmas.Bool.{cond_both, ltb-true, eqb-true, eqb-false, le-leb, cases_eq, cases_lt}
 use Rattle.std.proofs.lemmas.List.{length-set, length-map, get_or-set_same, get_or-set_other}
 use Rattle.std.proofs.lemmas.Bool.Decides.{nat_tests}
@@ -10,19 +10,12 @@ use Rattle.cell_rules.specs.declared.row.Row.{Row}
 use Rattle.cell_rules.specs.Rules.{State, Outcome, Reports, at, fresh, due, enters, leaves, once, with_arrived, released, arrived, all_leave, created}
 use Rattle.cell_rules.specs.Facts.{Facts}
 use Rattle.cell_rules.specs.Bookable.{Bookable}
+use Rattle.cell_rules.proofs.Rows.{fresh_at, fresh_facts}
 use Rattle.cell_rules.proofs.Settling.{Right, slot_right, slot_settles}
 use Rattle.cell_rules.proofs.Booking.{booked_length, booked_at, once_case, facts_booked}
 use Rattle.fairness.specs.Past.{Which, refusal, deciding, clean_for}
 use Rattle.fairness.specs.Past.Call.{arrival}
 use Rattle.fairness.proofs.Runs.{Always}
-
-pub fresh_at : (lines : List Line) (k : ℕ) → at (map fresh lines) k ≡ fresh (get_or lines k no_line)
-fresh_at [] k = refl
-fresh_at (l ∷ ls) zero = refl
-fresh_at (l ∷ ls) (suc k) = fresh_at ls k
-
-facts_fresh : (l : Line) → Facts (fresh l)
-facts_fresh l = omega arith
 
 facts_arrived : (n : ℕ) (r : Row) → Facts r → Facts (with_arrived (r.arrived + n) r)
 facts_arrived n r a = omega arith
@@ -40,8 +33,8 @@ due_left a m e = grind (arith, nat_tests)
 due_remains : (a m : ℕ) → m < a → eqb (a - (m + 1)) 0 ≡ false → ltb 0 (a - m) ≡ ltb 0 (a - (m + 1))
 due_remains a m l e = grind (arith, nat_tests)
 
--- Of a flow: no more of its turns are past than packets arrived, the reference holds it due exactly if its due is above 0,
--- its facts hold, and its limits are the table's.
+-- Of a flow: no more of its turns are past than packets arrived, the reference holds it due exactly if its due is above
+-- 0, its facts hold, and its limits are the table's.
 pub record Kept (held_due : Bool) (r : Row) (l : Line) : Type 0 where
   pub marked_arrived : r.marked ≤ r.arrived
   pub is_due : held_due ≡ ltb 0 (due r)
@@ -145,7 +138,7 @@ module _ (M : Meaning) (L : Lawful M) (h : M.Held) (lines : List Line) where
             (record {
               marked_arrived = omega arith;
               is_due = all_left (length lines) sound (omega arith) k (omega arith);
-              facts = facts_fresh (get_or lines k no_line);
+              facts = fresh_facts (get_or lines k no_line);
               lag_limit = refl;
               lead_limit = refl;
             });

@@ -4,11 +4,12 @@ use Rattle.std.proofs.Math.Bool.{and-true}
 use Rattle.std.proofs.lemmas.Bool.{ltb-false}
 use Rattle.cell_rules.specs.declared.row.Row.{Row}
 use Rattle.reference.specs.Meaning.{Meaning, Lawful}
+use Rattle.record.specs.Accounts.{lag_up_of, forfeited_by}
 use Rattle.record.specs.declared.taking.Charge.{Charge}
 use Rattle.record.specs.declared.taking.Charge.TheVariants.{Nothing, LeadDown, LagUp, Forfeited}
 use Rattle.record.specs.declared.taking.Taking.{Taking}
 use Rattle.table.specs.declared.line.Line.{Line}
-use Rattle.cell_rules.specs.Rules.{State, Outcome, at, able, waiting, once, lag_up_of, forfeited_by, booked_row, flags_clean}
+use Rattle.cell_rules.specs.Rules.{State, Outcome, at, able, waiting, once, booked_row, flags_clean}
 use Rattle.cell_rules.specs.Facts.{Facts}
 use Rattle.fairness.specs.Past.{deciding}
 use Rattle.fairness.specs.Past.Which.{cell}

@@ -1,6 +1,7 @@
--- What a cell keeps in every past, over every reference: each decision is the rules', and beside its clear-weather twin no
--- flow is further behind than it should be.
+-- What a cell keeps in every past, over every reference: each decision is the rules', and beside its clear-weather twin
+-- no flow is further behind than it should be.
 use Rattle.std.specs.Prelude.{All, ◌≡◌, ℕ, ◌+◌, ◌*◌, ◌<◌, ◌≤◌, false, true, ◌⊎◌, ◌↔◌, List, map, length, Some, None, count_by, Option, nat_lt, slice_index_or}
+use Rattle.record.specs.Accounts.{names, free_sender, forfeited_by}
 use Rattle.record.specs.declared.taking.Charge.TheVariants.{Nothing, LeadDown, LagUp, Forfeited}
 use Rattle.record.specs.declared.taking.Taking.{Taking}
 use Rattle.record.specs.declared.taking.Taking.TheVariants.{Idle, Own}
@@ -9,7 +10,7 @@ use Rattle.reference.specs.Meaning.{Meaning, SameNumbers}
 use Rattle.table.specs.declared.line.Line.{Line}
 use Rattle.table.specs.Lines.{no_line}
 use Rattle.cell_rules.specs.declared.row.Row.{Row}
-use Rattle.cell_rules.specs.Rules.{at, waiting, due, names, free_to, forfeited_by, ring_finds, chargeable, flags_clean, outcome, decided, created}
+use Rattle.cell_rules.specs.Rules.{at, waiting, due, ring_finds, chargeable, flags_clean, outcome, decided, created}
 use Rattle.cell_rules.specs.Facts.{Facts}
 use Rattle.fairness.specs.Past.{Which, Call, Decision, after, answers, decisions, packets_accepted, refusal_in}
 use Rattle.fairness.specs.Past.Which.{cell, twin}
@@ -78,7 +79,7 @@ module _ (M : Meaning) where
   pub record CountsAreTotals (ds : List (Decision M)) (f : ℕ) (r : Row) : Type 0 where
     pub marked : r.marked ≡ count_by (λ d. names d.came_to.marked f) ds
     pub sent : r.sent ≡ count_by (λ d. names (sender_of d.came_to.taking) f) ds
-    pub free : r.free ≡ count_by (λ d. names (free_to d.came_to.taking) f) ds
+    pub free : r.free ≡ count_by (λ d. names (free_sender d.came_to.taking) f) ds
     pub forfeited : r.forfeited ≡ count_by (λ d. names (forfeited_by d.came_to.charge d.came_to.marked) f) ds
 
   -- ## A past: what the reference held before creation, the table's lines, and the calls since
@@ -117,9 +118,10 @@ module _ (M : Meaning) where
     DueWithoutABreak f = All (DueAround f) (decisions_of cell)
 
     pub record Fair : Type 0 where
-      -- Every decision of the cell is the rules' on its own set's flags, and its slot is idle exactly when no waiting flow
-      -- is clean. Its sender waits and is clean; its marked flow's lag rises, or it forfeits, only if it can't send; and
-      -- it forfeits below its lag limit only if nobody sends on account. If it leads, it is charged a lead, or nothing.
+      -- Every decision of the cell is the rules' on its own set's flags, and its slot is idle exactly when no waiting
+      -- flow is clean. Its sender waits and is clean; its marked flow's lag rises, or it forfeits, only if it can't
+      -- send; and it forfeits below its lag limit only if nobody sends on account. If it leads, it is charged a lead,
+      -- or nothing.
       pub decided_by_the_rules : All ByTheRules (decisions_of cell)
       pub idle_exactly_when_nobody_can_send : All IdleExactlyWhenNobodyCanSend (decisions_of cell)
       pub sender_waits_and_is_clean : All SenderWaitsAndIsClean (decisions_of cell)
@@ -138,17 +140,18 @@ module _ (M : Meaning) where
       pub lead_limit_is_the_tables : (w : Which) (f : ℕ) → f < M.flows h → (flow_of w f).lead_limit ≡ lead_limit f
       -- The cell's slot is the number of its decisions: it is 0 before the first, and never again.
       pub slot_counts_decisions : (after M cell (created M h lines) calls).slot ≡ slots
-      -- Every flow keeps its facts, in the twin too; no more of its turns are past than packets arrived, and the reference
-      -- holds it due exactly if something is due for it.
+      -- Every flow keeps its facts, in the twin too; no more of its turns are past than packets arrived, and the
+      -- reference holds it due exactly if something is due for it.
       pub flows_keep_their_facts : (w : Which) (f : ℕ) → f < M.flows h → Facts (flow_of w f)
       pub no_turn_without_a_packet : (w : Which) (f : ℕ) → f < M.flows h → (flow_of w f).marked ≤ (flow_of w f).arrived
       pub reference_agrees_on_due : (w : Which) (f : ℕ) → f < M.flows h → M.due (held_by w) f ≡ nat_lt 0 (due (flow_of w f))
-      -- Cell and twin refused the same calls with the same numbers, and in each slot both marked the same flow, or neither
-      -- marked one. The twin's sender was its marked flow, or nobody in an unmarked slot.
+      -- Cell and twin refused the same calls with the same numbers, and in each slot both marked the same flow, or
+      -- neither marked one. The twin's sender was its marked flow, or nobody in an unmarked slot.
       pub refused_the_same : refusals_of cell ≡ refusals_of twin
       pub marked_the_same : marks_of cell ≡ marks_of twin
       pub twin_sends_its_marks : All SendsItsMark (decisions_of twin)
-      -- A flow that is clean throughout is not behind the twin, and no flow by more than its lag limit and its forfeits.
+      -- A flow that is clean throughout is not behind the twin, and no flow by more than its lag limit and its
+      -- forfeits.
       pub clean_flow_is_not_behind :
           (f : ℕ) → f < M.flows h → CleanThroughout f → (flow_of twin f).sent ≤ (flow_of cell f).sent
       pub no_flow_is_far_behind :

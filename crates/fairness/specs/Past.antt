@@ -3,8 +3,8 @@ use Rattle.std.specs.Prelude.{ℕ, ◌+◌, Bool, true, cond, List, [], ◌∷�
 use Rattle.reference.specs.Meaning.{Meaning}
 use Rattle.cell_rules.specs.Rules.{State, Outcome, Reports, outcome, decided, arrived, opened, with_flag, flags_clean, arrival_refusal, opening_refusal, flag_refusal, decision_refusal}
 
--- The twin has the same table and a reference that held the same before creation, and is asked the same. But each of its
--- decisions takes every flow as clean.
+-- The twin has the same table and a reference that held the same before creation, and is asked the same. But each of
+-- its decisions takes every flow as clean.
 pub data Which : Type 0 where
   cell twin : Which
 
@@ -13,7 +13,8 @@ clean_for cell set f = flags_clean set f
 clean_for twin set f = true
 
 -- what may be asked, in any order and number: packets arrive for a flow, a control phase is opened, a flow flags in a
--- report set, clean or dirty, a slot is decided on a report set. The sets are any sets at all, fresh, stale or another cell's.
+-- report set, clean or dirty, a slot is decided on a report set. The sets are any sets at all, fresh, stale or another
+-- cell's.
 pub data Call : Type 0 where
   arrival : ℕ → ℕ → Call
   opening : Call
@@ -28,7 +29,8 @@ pub record Decision (M : Meaning) : Type 0 where
   pub came_to : Outcome
   pub after : State M
 
--- what a call is answered: that it was accepted, with the set or the decision if there is one, or the number of a refusal
+-- what a call is answered: that it was accepted, with the set or the decision if there is one, or the number of a
+-- refusal
 pub data Answer (M : Meaning) : Type 0 where
   done : Answer M
   handed : Reports → Answer M

@@ -28,29 +28,30 @@ use Rattle.fault.specs.declared.EventFault.TheVariants.{Unknown, CutShort}
 use Rattle.fault.specs.declared.RunFault.{RunFault}
 use Rattle.fault.specs.declared.RunFault.TheVariants.{Creation, Arrival, Opening, Event}
 
-abbrev pub refused : ℕ → ℕ → Layer → Refusal
-refused n b l = record { number = n; byte = b; layer = l }
+-- the refusal with this number, at this byte, in this layer
+abbrev pub refusal_of : ℕ → ℕ → Layer → Refusal
+refusal_of n b l = record { number = n; byte = b; layer = l }
 
 abbrev pub frame_told : FrameFault → Refusal
-frame_told Length = refused 1 0 Frame
-frame_told Version = refused 2 2 Frame
+frame_told Length = refusal_of 1 0 Frame
+frame_told Version = refusal_of 2 2 Frame
 
 abbrev pub header_told : HeaderFault → Refusal
 header_told (InFrame e) = frame_told e
-header_told Kind = refused 3 3 Header
-header_told Lookahead = refused 3 4 Header
-header_told FlowCount = refused 4 5 Header
+header_told Kind = refusal_of 3 3 Header
+header_told Lookahead = refusal_of 3 4 Header
+header_told FlowCount = refusal_of 4 5 Header
 
 -- a flow's line has four bytes, weight and delay weight first; the first line begins at byte 6
 abbrev pub line_told : LineFault → Refusal
 line_told (InHeader e) = header_told e
-line_told (Weight flow) = refused 5 (6 + 4 * flow) Line
-line_told (DelayWeight flow) = refused 5 (7 + 4 * flow) Line
+line_told (Weight flow) = refusal_of 5 (6 + 4 * flow) Line
+line_told (DelayWeight flow) = refusal_of 5 (7 + 4 * flow) Line
 
 -- a flow count that is not the reference's is told as one that no table may have
 abbrev pub creation_told : CreationFault → Refusal
 creation_told (InTable e) = line_told e
-creation_told OtherFlowCount = refused 4 5 Header
+creation_told OtherFlowCount = refusal_of 4 5 Header
 
 abbrev pub record_number : RecordFault → ℕ
 record_number RecordLength = 13

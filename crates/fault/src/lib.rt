@@ -46,8 +46,8 @@ impl fmt::Display for Layer {
     }
 }
 
-/// What a refused table is told by, outside the code, where the faults below stand for it: the number of the refusal, the
-/// first wrong byte (from 0, the length among them) and the layer.
+/// What a refused table is told by, outside the code, where the faults below stand for it: the number of the refusal,
+/// the first wrong byte (from 0, the length among them) and the layer.
 #[derive(Clone, Copy, PartialEq, Eq, Debug)]
 pub struct Refusal {
     /// The number of the refusal.

@@ -6,11 +6,11 @@ use Rattle.octets.specs.BigEndian.{Bytes, be_number, be_bytes}
 pow_256_pos : (w : ℕ) → 0 < 256 ^ w
 pow_256_pos w = one-le-pow w 256 (omega arith)
 
-pub length_be_bytes : (w n : ℕ) → length (be_bytes w n) ≡ w
+length_be_bytes : (w n : ℕ) → length (be_bytes w n) ≡ w
 length_be_bytes zero n = refl
 length_be_bytes (suc w) n = ap suc (length_be_bytes w n)
 
-pub be_number_below : (bs : List ℕ) → Bytes bs → be_number bs < 256 ^ length bs
+be_number_below : (bs : List ℕ) → Bytes bs → be_number bs < 256 ^ length bs
 be_number_below [] h = omega arith
 be_number_below (b ∷ bs) h =
     let p = 256 ^ length bs in

@@ -6,7 +6,7 @@ use Rattle.std.specs.List.{between}
 use Rattle.octets.specs.Output.{pasted, Written}
 
 -- what a list is, once its tail from `at` on was lent and came back with bs in front
-pub tail_pasted :
+tail_pasted :
     (xs ys bs : List ℕ) (at : ℕ)
     → at ≤ length xs
     → ys ≡ bs ++ drop (length bs) (take (length xs - at) (drop at xs))

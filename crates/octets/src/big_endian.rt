@@ -10,6 +10,7 @@ pub trait BigEndian {
     /// How many they are.
     ghost width: { ℕ };
 
+    /// The bytes, as a list.
     ghost listed: { Self.Bytes → List ℕ };
 
     /// The number, whatever its type.

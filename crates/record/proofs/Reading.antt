@@ -115,7 +115,7 @@ module _ (r : Record) where
       ap (taking_of (taking_number r.taking)) fb.1 ∙ taking_back r.taking in
       simp (fb.0, t, charge_back r.charge, slot_back) fits
 
-  pub record_unrefused : record_refusal (record_bytes r) ≡ None
+  record_unrefused : record_refusal (record_bytes r) ≡ None
   record_unrefused = rw bytes_fit_back
 
 -- Two records with the same bytes are the same.
@@ -141,7 +141,7 @@ record_same r s m t c n l =
       pair = is_prop→PathP (λ j. pair_fits (m j) (t j) (c j) ≡ true) (λ j. Bool-set _ _) r.pair s.pair i;
     }
 
-pub records_alike : (r s : Record) → record_bytes r ≡ record_bytes s → r ≡ s
+records_alike : (r s : Record) → record_bytes r ≡ record_bytes s → r ≡ s
 records_alike r s e =
     let fr = flows_back r in
     let fs = flows_back s in

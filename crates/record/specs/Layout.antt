@@ -15,7 +15,7 @@ flow_byte (Some f) = f
 abbrev pub flow_named : ℕ → Option ℕ
 flow_named b = cond (b == 255) None (Some b)
 
--- version 1, marked flow, sender, taking, charge, flow count and slot, behind their length
+-- version 1, marked flow, sender, taking, charge, flow count and slot, after their length
 abbrev pub slot_bytes : Option ℕ → Taking → Charge → ℕ → ℕ → List ℕ
 slot_bytes marked taking charge flow_count slot =
     framed

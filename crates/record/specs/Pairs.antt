@@ -1,5 +1,6 @@
 -- What a slot's record may say: takings with their senders, charges, and which of them go together.
 use Rattle.std.specs.Prelude.{ℕ, Bool, true, false, cond, not, ◌&&◌, Some, None, Option, ◌==◌, nat_lt}
+use Rattle.record.specs.Accounts.{names}
 use Rattle.record.specs.declared.taking.Charge.{Charge}
 use Rattle.record.specs.declared.taking.Charge.TheVariants.{Nothing, LeadDown, LagUp, Forfeited}
 use Rattle.record.specs.declared.taking.Taking.{Taking}
@@ -46,18 +47,13 @@ abbrev pub flow_fits : ℕ → Option ℕ → Bool
 flow_fits n None = true
 flow_fits n (Some f) = nat_lt f n
 
--- whether a slot marks flow s
-abbrev pub marks : Option ℕ → ℕ → Bool
-marks None s = false
-marks (Some m) s = s == m
-
 -- the sender is the marked flow in its own taking, and another flow in the three that pass the slot on
 abbrev pub sender_fits : Option ℕ → Taking → Bool
 sender_fits m Idle = true
-sender_fits m (Own s) = marks m s
-sender_fits m (LagRepaid s) = not (marks m s)
-sender_fits m (LeadCharged s) = not (marks m s)
-sender_fits m (Free s) = not (marks m s)
+sender_fits m (Own s) = names m s
+sender_fits m (LagRepaid s) = not (names m s)
+sender_fits m (LeadCharged s) = not (names m s)
+sender_fits m (Free s) = not (names m s)
 
 -- the flows that a record of n flows names
 abbrev pub flows_fit : ℕ → Option ℕ → Taking → Bool

@@ -18,8 +18,8 @@ fn flow_fits(flow_count: u8, flow: Option<u8>) -> bool
     flow.is_none_or(|flow| flow < flow_count)
 }
 
-// Marked flow, taking and charge are passed to each rule by themselves: a struct of them would be the record, before its
-// facts hold.
+// Marked flow, taking and charge are passed to each rule by themselves: a struct of them would be the record, before
+// its facts hold.
 /// Whether the sender is the marked flow where it has to be, and another one where it has not.
 fn sender_fits(marked: Option<u8>, taking: Taking) -> bool
     ensures { result ≡ sender_fits marked taking }

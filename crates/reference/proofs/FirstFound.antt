@@ -1,6 +1,6 @@
 -- What the searches of the library find, in the words of a reference.
-use Rattle.std.proofs.Common.{◌≡◌, ℕ, suc, ◌+◌, ◌-◌, ◌<◌, ◌≤◌, Bool, true, false, ◌||◌, Bor, List, [], ◌∷◌, ◌++◌, length, get_or, take, drop, Some, None, Option, sym, refl, ap, ◌∙◌, arith, add-zero, zero-add, length-drop, length-take}
-use Rattle.std.specs.Option.{MatchOption, option_map, option_or}
+use Rattle.std.proofs.Common.{◌≡◌, ℕ, suc, ◌+◌, ◌-◌, ◌<◌, ◌≤◌, Bool, true, false, ◌||◌, Bor, List, [], ◌∷◌, ◌++◌, length, get_or, take, drop, Option, sym, refl, ap, ◌∙◌, arith, add-zero, zero-add, length-drop, length-take}
+use Rattle.std.specs.Option.{MatchOption, option_map}
 use Rattle.std.specs.Fn.{Called, Mut}
 use Rattle.std.specs.Iterator.{YieldsThen}
 use Rattle.std.specs.Slice.Iter.{iter_rest}
@@ -12,9 +12,9 @@ use Rattle.std.proofs.lemmas.List.{get_or-drop, get_or-take, length-take-le}
 use Rattle.std.proofs.lemmas.List.Folds.{find-append}
 use Rattle.std.proofs.lemmas.List.Recursion.{same_from_clauses}
 use Rattle.std.proofs.lemmas.Iterator.Adapters.{option_map_id}
-use Rattle.reference.specs.Flows.{some, first, or_else, around}
+use Rattle.reference.specs.Flows.{some, first, around}
 
-pub list_any_some : {A : Type 0} (p : A → Bool) (xs : List A) → list_any p xs ≡ some p xs
+list_any_some : {A : Type 0} (p : A → Bool) (xs : List A) → list_any p xs ≡ some p xs
 list_any_some p = same_from_clauses (list_any p) (some p) (λ x b. p x || b) refl (λ x xs. refl) (λ x xs. refl)
 
 -- what `any` answers over a slice, with p the test that it asks
@@ -28,10 +28,6 @@ pub any_some :
     → r ≡ some p xs
 any_some p xs f r ran rest computes =
     any_from_yields_List p _ f r ran (YieldsList-from_slice xs rest) computes ∙ list_any_some p xs
-
-option_or_or_else : (a b : Option ℕ) → option_or a b ≡ or_else a b
-option_or_or_else None b = refl
-option_or_or_else (Some x) b = refl
 
 -- a search of numbers that asks the test of the flow of each number
 module _ {A : Type 0} (p : A → Bool) (d : A) (test : ℕ → Bool) where
@@ -63,7 +59,6 @@ module _ {A : Type 0} (p : A → Bool) (d : A) (test : ℕ → Bool) where
       let n : length (take i xs) ≡ i = length-take-le i xs le in
       let m : length (drop i xs) ≡ length xs - i = length-drop i xs in
       let split = find-append test (range_with_len i (length xs - i)) (range_with_len 0 i) in
-      let joined = option_or_or_else (first p i (drop i xs)) (first p 0 (take i xs)) in
       cc
 
   -- what a search of the numbers from i upward and then of those below i has found

@@ -2,10 +2,11 @@
 use Rattle.std.proofs.Common.{◌≡◌, ℕ, zero, suc, ◌+◌, ◌-◌, ◌<◌, ◌≤◌, Bool, true, false, ◌⊎◌, List, [], ◌∷◌, length, get_or, take, drop, Some, None, Option, sym, refl, ap, ◌∙◌, inl, inr, ⊎_elim, arith, length-drop, length-take}
 use Rattle.std.proofs.lemmas.List.{get_or-drop, get_or-take}
 use Rattle.std.proofs.lemmas.Bool.{cases_lt, or_parts, lt-ltb, le-ltb}
-use Rattle.reference.specs.Flows.{some, first, or_else, around, away}
+use Rattle.std.specs.Option.{option_or}
+use Rattle.reference.specs.Flows.{some, first, around, away}
 
 module _ {A : Type 0} (p : A → Bool) (d : A) where
-  pub first_passes :
+  first_passes :
       (i : ℕ) (xs : List A) (f : ℕ)
       → first p i xs ≡ Some f
       → (k : ℕ) × (f ≡ i + k) × (k < length xs) × (p (get_or xs k d) ≡ true)
@@ -22,7 +23,7 @@ module _ {A : Type 0} (p : A → Bool) (d : A) where
           let m = more q in
           (suc m.0, omega (arith, m.1), omega (arith, m.2), m.3)
 
-  pub first_none : (i : ℕ) (xs : List A) → first p i xs ≡ None → (k : ℕ) → k < length xs → p (get_or xs k d) ≡ false
+  first_none : (i : ℕ) (xs : List A) → first p i xs ≡ None → (k : ℕ) → k < length xs → p (get_or xs k d) ≡ false
   first_none i [] e k h = absurd (omega arith)
   first_none i (x ∷ xs) e k h = split (p x) refl k h (first_none (i + 1) xs)
     where
@@ -35,7 +36,7 @@ module _ {A : Type 0} (p : A → Bool) (d : A) where
       split false g (suc k) h more = let q : first p (i + 1) xs ≡ None = rw g at e in more q k (omega arith)
 
   -- what the search passes over does not pass the test
-  pub first_passes_over :
+  first_passes_over :
       (i : ℕ) (xs : List A) (f : ℕ) → first p i xs ≡ Some f → (k : ℕ) → i + k < f → p (get_or xs k d) ≡ false
   first_passes_over i [] f e k l = let z : ◌≡◌ {A = ℕ} 0 1 = cc in absurd (omega arith)
   first_passes_over i (x ∷ xs) f e k l = split (p x) refl k l (first_passes_over (i + 1) xs f)
@@ -53,13 +54,13 @@ module _ {A : Type 0} (p : A → Bool) (d : A) where
   some_none (x ∷ xs) e zero h = (or_parts (p x) (some p xs) e).0
   some_none (x ∷ xs) e (suc k) h = some_none xs (or_parts (p x) (some p xs) e).1 k (omega arith)
 
-  or_else_cases : (a b : Option ℕ) (f : ℕ) → or_else a b ≡ Some f → (a ≡ Some f) ⊎ (b ≡ Some f)
-  or_else_cases None b f e = inr e
-  or_else_cases (Some x) b f e = inl e
+  option_or_cases : (a b : Option ℕ) (f : ℕ) → option_or a b ≡ Some f → (a ≡ Some f) ⊎ (b ≡ Some f)
+  option_or_cases None b f e = inr e
+  option_or_cases (Some x) b f e = inl e
 
-  or_else_none : (a b : Option ℕ) → or_else a b ≡ None → (a ≡ None) × (b ≡ None)
-  or_else_none None b e = (refl, e)
-  or_else_none (Some x) b e = let z : ◌≡◌ {A = ℕ} 0 1 = cc in absurd (omega arith)
+  option_or_none : (a b : Option ℕ) → option_or a b ≡ None → (a ≡ None) × (b ≡ None)
+  option_or_none None b e = (refl, e)
+  option_or_none (Some x) b e = let z : ◌≡◌ {A = ℕ} 0 1 = cc in absurd (omega arith)
 
   pub around_passes :
       (i : ℕ) (xs : List A) (f : ℕ) → around p i xs ≡ Some f → (f < length xs) × (p (get_or xs f d) ≡ true)
@@ -75,11 +76,11 @@ module _ {A : Type 0} (p : A → Bool) (d : A) where
       let b : m.0 < i = omega (arith, m.2, length-take i xs) in
       let q : f ≡ m.0 = omega (arith, m.1) in
       (l, ap (λ k. p (get_or xs k d)) q ∙ (ap p (sym (get_or-take i xs m.0 d b)) ∙ m.3)))
-      (or_else_cases (first p i (drop i xs)) (first p 0 (take i xs)) f e)
+      (option_or_cases (first p i (drop i xs)) (first p 0 (take i xs)) f e)
 
   pub around_none : (i : ℕ) (xs : List A) → around p i xs ≡ None → (k : ℕ) → k < length xs → p (get_or xs k d) ≡ false
   around_none i xs e k h =
-      let n = or_else_none (first p i (drop i xs)) (first p 0 (take i xs)) e in
+      let n = option_or_none (first p i (drop i xs)) (first p 0 (take i xs)) e in
       ⊎_elim
       (λ b.
       ap p (sym (get_or-take i xs k d b))

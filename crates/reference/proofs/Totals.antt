@@ -12,7 +12,7 @@ module _ {A : Type 0} (g : A → ℕ) (d : A) where
   sum_split (x ∷ xs) zero h = refl
   sum_split (x ∷ xs) (suc f) h = omega (arith, sum_split xs f (omega arith))
 
-  pub sum_set : (xs : List A) (f : ℕ) (y : A) → f < length xs → sum g (set xs f y) + g (get_or xs f d) ≡ sum g xs + g y
+  sum_set : (xs : List A) (f : ℕ) (y : A) → f < length xs → sum g (set xs f y) + g (get_or xs f d) ≡ sum g xs + g y
   sum_set [] f y h = absurd (omega arith)
   sum_set (x ∷ xs) zero y h = omega arith
   sum_set (x ∷ xs) (suc f) y h = omega (arith, sum_set xs f y (omega arith))
@@ -71,7 +71,7 @@ module _ {A : Type 0} (g : A → ℕ) (d : A) where
   sum_below_is (x ∷ xs) = shifted (λ k. g (get_or (x ∷ xs) k d)) (length xs) ∙ ap (λ n. g x + n) (sum_below_is xs)
 
 module _ {A : Type 0} (g h : A → ℕ) where
-  pub sum_le : (xs : List A) → AllByRecursion (λ x. g x ≤ h x) xs → sum g xs ≤ sum h xs
+  sum_le : (xs : List A) → AllByRecursion (λ x. g x ≤ h x) xs → sum g xs ≤ sum h xs
   sum_le [] a = omega arith
   sum_le (x ∷ xs) a = omega (arith, a.0, sum_le xs a.1)
 
@@ -80,7 +80,7 @@ module _ {A : Type 0} (g h : A → ℕ) where
   others_le (x ∷ xs) zero a = sum_le xs a.1
   others_le (x ∷ xs) (suc f) a = omega (arith, a.0, others_le xs f a.1)
 
-  pub sum_add : (xs : List A) → sum (λ x. g x + h x) xs ≡ sum g xs + sum h xs
+  sum_add : (xs : List A) → sum (λ x. g x + h x) xs ≡ sum g xs + sum h xs
   sum_add [] = refl
   sum_add (x ∷ xs) = omega (arith, sum_add xs)
 
@@ -90,7 +90,7 @@ module _ {A : Type 0} (g h : A → ℕ) where
   others_add (x ∷ xs) (suc f) = omega (arith, others_add xs f)
 
 module _ {A : Type 0} (c : ℕ) (g : A → ℕ) where
-  pub sum_times : (xs : List A) → sum (λ x. c * g x) xs ≡ c * sum g xs
+  sum_times : (xs : List A) → sum (λ x. c * g x) xs ≡ c * sum g xs
   sum_times [] = omega arith
   sum_times (x ∷ xs) = omega (arith, sum_times xs, mul-add c (g x) (sum g xs))
 
@@ -99,7 +99,7 @@ module _ {A : Type 0} (c : ℕ) (g : A → ℕ) where
   others_times (x ∷ xs) zero = sum_times xs
   others_times (x ∷ xs) (suc f) = omega (arith, others_times xs f, mul-add c (g x) (others g xs f))
 
-pub sum_const : {A : Type 0} (c : ℕ) (xs : List A) → sum (λ (x : A). c) xs ≡ c * length xs
+sum_const : {A : Type 0} (c : ℕ) (xs : List A) → sum (λ (x : A). c) xs ≡ c * length xs
 sum_const c [] = omega arith
 sum_const c (x ∷ xs) = omega (arith, sum_const c xs, mul-add c 1 (length xs))
 

@@ -1,5 +1,6 @@
 -- Words over the list of the flows, flow 0 first. Assumes nothing.
 use Rattle.std.specs.Prelude.{ℕ, zero, suc, ◌+◌, ◌-◌, Bool, false, cond, ◌||◌, List, [], ◌∷◌, take, drop, Some, None, Option, nat_lt}
+use Rattle.std.specs.Option.{option_or}
 
 -- the sum over all flows
 abbrev pub sum : {A : Type 0} → (A → ℕ) → List A → ℕ
@@ -22,13 +23,9 @@ abbrev pub first : {A : Type 0} → (A → Bool) → ℕ → List A → Option �
 first p i [] = None
 first p i (x ∷ xs) = cond (p x) (Some i) (first p (i + 1) xs)
 
-abbrev pub or_else : Option ℕ → Option ℕ → Option ℕ
-or_else None b = b
-or_else (Some x) b = Some x
-
 -- the first that passes a test, looking upward from flow i and around
 abbrev pub around : {A : Type 0} → (A → Bool) → ℕ → List A → Option ℕ
-around p i xs = or_else (first p i (drop i xs)) (first p 0 (take i xs))
+around p i xs = option_or (first p i (drop i xs)) (first p 0 (take i xs))
 
 -- how far flow f of n stands from flow i, looking upward and around
 abbrev pub away : ℕ → ℕ → ℕ → ℕ

@@ -25,7 +25,8 @@ NeverLeaves f (turning ∷ calls) = NeverLeaves f calls
 NeverLeaves f (entering g ∷ calls) = NeverLeaves f calls
 NeverLeaves f (leaving g ∷ calls) = (g ≢ f) × NeverLeaves f calls
 
--- Whatever calls follow h, in any order: each flow that is due in h, and leaves in none of them, has its share of the turns.
+-- Whatever calls follow h, in any order: each flow that is due in h, and leaves in none of them, has its share of the
+-- turns.
 abbrev pub GivesShares : (M : Meaning) → M.Held → Type 0
 GivesShares M h =
     (f : ℕ) (calls : List Call) → M.due h f ≡ true → NeverLeaves f calls → HasShare M h f (marks_of M h calls)

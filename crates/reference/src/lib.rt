@@ -9,6 +9,7 @@ ghost use Rattle.reference.specs.Meaning.{Meaning, Lawful, told};
 /// A reference over 1 to 16 flows. Its meaning is said by what it holds and by laws; code is generic over it, and every
 /// implementation shows all of it. The questions take `&self` and alter nothing.
 pub trait Reference {
+    /// The words in which it is spoken of.
     ghost meaning: { Meaning };
 
     /// What a value holds.
@@ -47,7 +48,9 @@ pub trait Reference {
         ensures mark { result ≡ meaning.marks (held self.old) }
         ensures after { held self.new ≡ meaning.turned (held self.old) };
 
+    /// These words keep the laws.
     ghost lawful: { Lawful meaning };
 
+    /// Whatever a value holds is a state that the reference can be in.
     ghost sound: { (s : Self) → meaning.Sound (held s) };
 }

@@ -1,6 +1,6 @@
--- What a turn leaves in an array whose front is worked on apart and put back, what is told of a flow, and a call that names no
--- flow. These theorems stood when the code worked on a part of the array and put it back. The code works in place now and
--- cites none of them; a theorem that stood stays.
+-- What a turn leaves in an array whose front is worked on apart and put back, what is told of a flow, and a call that
+-- names no flow. These theorems stood when the code worked on a part of the array and put it back. The code works in
+-- place now and cites none of them; a theorem that stood stays.
 use Rattle.std.proofs.Common.{◌≡◌, ℕ, ◌<◌, ◌≤◌, Bool, false, List, ◌++◌, length, take, drop, Some, None, sym, ap, subst, ◌∙◌, arith}
 use Rattle.std.specs.List.{AllByRecursion}
 use Rattle.std.proofs.lemmas.Bool.{lt-ltb}

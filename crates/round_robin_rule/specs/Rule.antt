@@ -69,8 +69,8 @@ renewed qs = cond (some is_due qs && not (some ready qs)) (map unused qs) qs
 abbrev pub chosen : Robin → Option ℕ
 chosen h = around ready h.pointer (renewed h.quotas)
 
--- What that says: no flow is marked only if none is ready. A marked flow is ready, and no flow that stands nearer to the
--- pointer, looking upward and around, is.
+-- What that says: no flow is marked only if none is ready. A marked flow is ready, and no flow that stands nearer to
+-- the pointer, looking upward and around, is.
 abbrev pub FirstInTurn : Robin → Option ℕ → Type 0
 FirstInTurn h None = (g : ℕ) → ready (quota_at (renewed h.quotas) g) ≡ false
 FirstInTurn h (Some f) =

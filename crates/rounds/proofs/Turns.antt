@@ -9,7 +9,7 @@ use Rattle.reference.proofs.Shares.{gives_shares}
 use Rattle.rounds.specs.Rounds.{after_turns, MarkIsDue}
 
 -- no flow leaves in a turn
-pub turns_never_leave : (f n : ℕ) → NeverLeaves f (turns_then n [])
+turns_never_leave : (f n : ℕ) → NeverLeaves f (turns_then n [])
 turns_never_leave f zero = tt
 turns_never_leave f (suc n) = turns_never_leave f n
 

@@ -19,8 +19,8 @@ abbrev pub MarkIsDue : (M : Meaning) → M.Held → Option ℕ → Type 0
 MarkIsDue M h None = (f : ℕ) → M.due h f ≡ false
 MarkIsDue M h (Some f) = M.due h f ≡ true
 
--- Two rounds from h, up to k: every flow entered, and then came as many turns as twice the total weight. Every flow has its
--- share of the marks.
+-- Two rounds from h, up to k: every flow entered, and then came as many turns as twice the total weight. Every flow has
+-- its share of the marks.
 pub record TwoRounds (M : Meaning) (h k : M.Held) (marks : List (Option ℕ)) : Type 0 where
   pub turns_mark : marks ≡ marks_of M (entered_below M h (M.flows h)) (turns_then (2 * M.total h) [])
   pub turns_leave : k ≡ after_turns M (entered_below M h (M.flows h)) (2 * M.total h)

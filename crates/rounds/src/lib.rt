@@ -1,5 +1,5 @@
-//! Many calls on a reference at once: every flow enters, and one turn after another. Each flow that is due has its share
-//! of the turns.
+//! Many calls on a reference at once: every flow enters, and one turn after another. Each flow that is due has its
+//! share of the turns.
 
 #![tactic(auto)]
 
@@ -34,9 +34,9 @@ pub fn enter_all<R: Reference>(reference: &mut R)
 pub fn take_turns<R: Reference>(reference: &mut R, marks: &mut [Option<u8>])
     ensures marks { marks.new ≡ marks_of R.meaning (R.held reference.old) (turns_then (length marks.old) []) }
     ensures after { R.held reference.new ≡ after_turns R.meaning (R.held reference.old) (length marks.old) }
-    ensures due { AllByRecursion (MarkIsDue R.meaning (R.held reference.old)) marks.new }
+    ensures marks_due { AllByRecursion (MarkIsDue R.meaning (R.held reference.old)) marks.new }
     ensures shares { (f : ℕ) → R.meaning.due (R.held reference.old) f ≡ true → HasShare R.meaning (R.held reference.old) f marks.new }
-    ensures always { GivesShares R.meaning (R.held reference.old) }
+    ensures shares_in_any_calls { GivesShares R.meaning (R.held reference.old) }
 {
     for place in marks.iter_mut() {
         *place = reference.turn();

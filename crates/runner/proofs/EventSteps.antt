@@ -92,7 +92,7 @@ whole_gives old new e bs r begun whole taken =
     taken_gives old old new e bs r (subst (λ b. BytesOf e (begun_bytes b ++ bs)) (sym begun) whole) refl begun taken
 
 -- what begins like no event is refused, whatever follows
-pub no_event : (s : State own) (e : ℕ) (rest : List ℕ) → e ≢ 0x41 → e ≢ 0x53 → events own (Some s) (e ∷ rest) ≡ refusal_bytes 16
+no_event : (s : State own) (e : ℕ) (rest : List ℕ) → e ≢ 0x41 → e ≢ 0x53 → events own (Some s) (e ∷ rest) ≡ refusal_bytes 16
 no_event s e [] no_arrival no_phase = refl
 no_event s e (a ∷ []) no_arrival no_phase = refl
 no_event s e (a ∷ b ∷ rest) no_arrival no_phase =

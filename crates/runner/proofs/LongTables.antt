@@ -4,12 +4,12 @@ use Rattle.std.proofs.lemmas.Bool.Decides.{nat_tests}
 use Rattle.std.proofs.Math.ListN.{drop_of_length-le}
 use Rattle.std.proofs.lemmas.List.{length-take-le}
 use Rattle.std.proofs.lemmas.Bool.{ltb-true, ltb-false}
+use Rattle.std.specs.Option.{option_or}
 use Rattle.octets.proofs.Fronts.{listed, listed_front}
-use Rattle.fault.specs.Faults.{refused}
+use Rattle.fault.specs.Faults.{refusal_of}
 use Rattle.fault.specs.declared.Layer.TheVariants.{Header}
 use Rattle.fault.specs.declared.Refusal.{Refusal}
 use Rattle.octets.specs.BigEndian.{be_number, byte_at, told_length}
-use Rattle.octets.specs.Conditions.{or_else}
 use Rattle.octets.specs.Ranges.{one_to_sixteen}
 use Rattle.table.specs.Lines.{kind_numbered, lookahead_fits}
 use Rattle.table.specs.Refusals.{fields_refusal, frame_refusal, lines_refusal, table_refusal}
@@ -19,8 +19,8 @@ use Rattle.runner.proofs.Tables.{cut_table_refused}
 
 -- what is wrong with the fields of a header whose flow count fits no length
 abbrev misfit : Option Kind → ℕ → Refusal
-misfit None lookahead = refused 3 3 Header
-misfit (Some k) lookahead = cond (lookahead_fits k lookahead) (refused 4 5 Header) (refused 3 4 Header)
+misfit None lookahead = refusal_of 3 3 Header
+misfit (Some k) lookahead = cond (lookahead_fits k lookahead) (refusal_of 4 5 Header) (refusal_of 3 4 Header)
 
 no_count_fits : (c told : ℕ) → 68 < told → (not (one_to_sixteen c) || not (told == 4 + 4 * c)) ≡ true
 no_count_fits c told h = grind (arith, nat_tests)
@@ -31,25 +31,25 @@ fields_misfit :
     → fields_refusal b k ≡ Some (misfit k (byte_at b 4))
 fields_misfit b None h = refl
 fields_misfit b (Some k) h =
-    ap (λ w. cond (not (lookahead_fits k (byte_at b 4))) (Some (refused 3 4 Header)) (cond w (Some (refused 4 5 Header)) None)) h
+    ap (λ w. cond (not (lookahead_fits k (byte_at b 4))) (Some (refusal_of 3 4 Header)) (cond w (Some (refusal_of 4 5 Header)) None)) h
     ∙ by_fit (lookahead_fits k (byte_at b 4))
   where
     by_fit :
         (w : Bool)
-        → cond (not w) (Some (refused 3 4 Header)) (Some (refused 4 5 Header))
-        ≡ Some (cond w (refused 4 5 Header) (refused 3 4 Header))
+        → cond (not w) (Some (refusal_of 3 4 Header)) (Some (refusal_of 4 5 Header))
+        ≡ Some (cond w (refusal_of 4 5 Header) (refusal_of 3 4 Header))
     by_fit true = refl
     by_fit false = refl
 
 -- lines are not looked at once the fields are refused
 lines_aside :
     (frame : Option Refusal) (r : Refusal) (x y : Option Refusal)
-    → or_else (or_else frame (Some r)) x ≡ or_else (or_else frame (Some r)) y
+    → option_or (option_or frame (Some r)) x ≡ option_or (option_or frame (Some r)) y
 lines_aside None r x y = refl
 lines_aside (Some f) r x y = refl
 
 -- a table of these six bytes and others, as long as it says
-pub refused_alike :
+refused_alike :
     (h l v k p c : ℕ) (xs : List ℕ)
     → 68 < be_number (h ∷ l ∷ [])
     → 6 + length xs ≡ be_number (h ∷ l ∷ []) + 2
@@ -61,10 +61,10 @@ refused_alike h l v k p c xs long n =
     let frames : frame_refusal b ≡ frame_refusal d = grind (arith, nat_tests) in
     let of_b : fields_refusal b kind ≡ Some (misfit kind p) = fields_misfit b kind (no_count_fits c (be_number (h ∷ l ∷ [])) long) in
     let of_d : fields_refusal d kind ≡ Some (misfit kind p) = fields_misfit d kind refl in
-    ap (λ o. or_else (or_else (frame_refusal b) o) (lines_refusal b kind)) of_b
-    ∙ ap (λ o. or_else (or_else o (Some (misfit kind p))) (lines_refusal b kind)) frames
+    ap (λ o. option_or (option_or (frame_refusal b) o) (lines_refusal b kind)) of_b
+    ∙ ap (λ o. option_or (option_or o (Some (misfit kind p))) (lines_refusal b kind)) frames
     ∙ lines_aside (frame_refusal d) (misfit kind p) (lines_refusal b kind) (lines_refusal d kind)
-    ∙ sym (ap (λ o. or_else (or_else (frame_refusal d) o) (lines_refusal d kind)) of_d)
+    ∙ sym (ap (λ o. option_or (option_or (frame_refusal d) o) (lines_refusal d kind)) of_d)
 
 -- an input that begins with these six bytes
 long_output_of :

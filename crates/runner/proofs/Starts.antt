@@ -3,12 +3,13 @@ use Rattle.std.proofs.Common.{◌≡◌, ℕ, List, [], ◌∷◌, length, cond,
 use Rattle.std.proofs.lemmas.Bool.Decides.{nat_tests}
 use Rattle.std.proofs.lemmas.List.{length-map}
 use Rattle.std.specs.List.{flat_map}
+use Rattle.std.specs.Option.{option_or}
 use Rattle.cell.specs.Creation.{creation_refusal}
 use Rattle.cell_rules.specs.Rules.{created}
-use Rattle.fault.specs.Faults.{refused}
+use Rattle.fault.specs.Faults.{refusal_of}
 use Rattle.fault.specs.declared.Layer.TheVariants.{Header}
 use Rattle.octets.specs.BigEndian.{byte_at}
-use Rattle.octets.specs.Conditions.{first_of, or_else}
+use Rattle.octets.specs.Conditions.{first_of}
 use Rattle.round_robin_rule.specs.Rule.{start as robin_start}
 use Rattle.table.proofs.Writing.{flow_lines_length}
 use Rattle.table.specs.Layout.{flow_lines, table_bytes}
@@ -58,7 +59,7 @@ module _ (b : List ℕ) (t : Table) (r : TableReference) (read : TableRead b (Ok
       let same : (byte_at b 5 == own.flows (own_held r)) ≡ true = grind (arith, nat_tests) in
       ap
       (λ told.
-      or_else (header_refusal b)
-      (or_else (first_of ((not told, refused 4 5 Header) ∷ [])) (lines_refusal b (kind_numbered (byte_at b 3)))))
+      option_or (header_refusal b)
+      (option_or (first_of ((not told, refusal_of 4 5 Header) ∷ [])) (lines_refusal b (kind_numbered (byte_at b 3)))))
       same
       ∙ read.0

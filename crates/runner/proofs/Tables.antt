@@ -3,59 +3,59 @@ use Rattle.std.proofs.Common.{◌≡◌, ℕ, ◌+◌, ◌<◌, ◌≤◌, List,
 use Rattle.std.proofs.Math.Seq.{take-append_seam, drop-append_seam}
 use Rattle.std.proofs.lemmas.List.{take_all}
 use Rattle.std.proofs.lemmas.Bool.Decides.{nat_tests}
-use Rattle.fault.specs.Faults.{refused}
+use Rattle.std.specs.Option.{option_or}
+use Rattle.fault.specs.Faults.{refusal_of}
 use Rattle.fault.specs.declared.Layer.TheVariants.{Frame}
 use Rattle.fault.specs.declared.Refusal.{Refusal}
 use Rattle.octets.specs.BigEndian.{byte_at, told_length}
-use Rattle.octets.specs.Conditions.{or_else}
 use Rattle.table.specs.Lines.{kind_numbered}
 use Rattle.table.specs.Refusals.{fields_refusal, frame_refusal, lines_refusal, table_refusal}
 use Rattle.runner.specs.Output.{output_by, output_of, refusal_bytes, table_part, events_part}
 
 -- the first two bytes tell the length, whatever follows
-pub front_tells : (b rest : List ℕ) → 2 ≤ length b → told_length (b ++ rest) ≡ told_length b
+front_tells : (b rest : List ℕ) → 2 ≤ length b → told_length (b ++ rest) ≡ told_length b
 front_tells [] rest h = absurd (omega (arith, h))
 front_tells (x ∷ []) rest h = absurd (omega (arith, h))
 front_tells (x ∷ y ∷ b) rest h = refl
 
 -- a whole table in front of other bytes
-pub table_in_front : (b rest : List ℕ) → length b ≡ told_length b + 2 → table_part (b ++ rest) ≡ b
+table_in_front : (b rest : List ℕ) → length b ≡ told_length b + 2 → table_part (b ++ rest) ≡ b
 table_in_front b rest e =
     let t = front_tells b rest (omega (arith, e)) in
     let n : told_length (b ++ rest) + 2 ≡ length b = omega (arith, e, t) in
     ap (λ k. take k (b ++ rest)) n ∙ take-append_seam b rest
 
-pub events_behind : (b rest : List ℕ) → length b ≡ told_length b + 2 → events_part (b ++ rest) ≡ rest
-events_behind b rest e =
+events_after : (b rest : List ℕ) → length b ≡ told_length b + 2 → events_part (b ++ rest) ≡ rest
+events_after b rest e =
     let t = front_tells b rest (omega (arith, e)) in
     let n : told_length (b ++ rest) + 2 ≡ length b = omega (arith, e, t) in
     ap (λ k. drop k (b ++ rest)) n ∙ drop-append_seam b rest
 
--- what is written behind a whole table
-pub output_behind :
+-- what is written after a whole table
+output_after :
     (b rest : List ℕ) → length b ≡ told_length b + 2 → output_of (b ++ rest) ≡ output_by (table_refusal b) b rest
-output_behind b rest e =
+output_after b rest e =
     let t = table_in_front b rest e in
-    let v = events_behind b rest e in
+    let v = events_after b rest e in
     ap (λ p. output_by (table_refusal p) p (events_part (b ++ rest))) t ∙ ap (output_by (table_refusal b) b) v
 
-pub table_refused_by_frame : (b : List ℕ) (r : Refusal) → frame_refusal b ≡ Some r → table_refusal b ≡ Some r
+table_refused_by_frame : (b : List ℕ) (r : Refusal) → frame_refusal b ≡ Some r → table_refusal b ≡ Some r
 table_refused_by_frame b r f =
     ap
-    (λ o. or_else (or_else o (fields_refusal b (kind_numbered (byte_at b 3)))) (lines_refusal b (kind_numbered (byte_at b 3))))
+    (λ o. option_or (option_or o (fields_refusal b (kind_numbered (byte_at b 3)))) (lines_refusal b (kind_numbered (byte_at b 3))))
     f
 
 -- an input that ends before its table does
 pub cut_table_refused : (b : List ℕ) → length b < told_length b + 2 → output_of b ≡ refusal_bytes 1
 cut_table_refused b h =
     let p : table_part b ≡ b = take_all (told_length b + 2) b (omega (arith, h)) in
-    let f : frame_refusal b ≡ Some (refused 1 0 Frame) = grind (arith, nat_tests) in
-    let r : table_refusal b ≡ Some (refused 1 0 Frame) = table_refused_by_frame b (refused 1 0 Frame) f in
+    let f : frame_refusal b ≡ Some (refusal_of 1 0 Frame) = grind (arith, nat_tests) in
+    let r : table_refusal b ≡ Some (refusal_of 1 0 Frame) = table_refused_by_frame b (refusal_of 1 0 Frame) f in
     ap (λ t. output_by (table_refusal t) t (events_part b)) p ∙ ap (λ o. output_by o b (events_part b)) r
 
-pub refused_behind :
+pub refused_after :
     (b rest : List ℕ) (r : Refusal)
     → length b ≡ told_length b + 2
     → table_refusal b ≡ Some r
     → output_of (b ++ rest) ≡ refusal_bytes r.number
-refused_behind b rest r e refused = output_behind b rest e ∙ ap (λ o. output_by o b rest) refused
+refused_after b rest r e refused = output_after b rest e ∙ ap (λ o. output_by o b rest) refused

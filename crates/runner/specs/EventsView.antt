@@ -24,7 +24,7 @@ held e = cell_held e.cell
 abbrev pub events_to_come : Events → List ℕ → List ℕ
 events_to_come e rest = events own (Some (held e)) (begun_bytes e.begun ++ rest)
 
--- the events behind a table's bytes begin, or the table is refused
+-- the events after a table's bytes begin, or the table is refused
 abbrev pub Begins : List ℕ → Result Events CreationFault → Type 0
 Begins b (Ok e) = (table_refusal b ≡ None) × (held e ≡ cell_of b) × (e.begun ≡ Nothing)
 Begins b (Err e) = table_refusal b ≡ Some (creation_told e)
@@ -52,7 +52,7 @@ abbrev pub Taken : Events → Event → Events → Result (Option Record) RunFau
 Taken old event new (Ok r) = (done_by (held old) event ≡ going_on (bytes_of r) (held new)) × (new.begun ≡ old.begun)
 Taken old event new (Err e) = done_by (held old) event ≡ stopped own (run_number e)
 
--- What is still written before an answer is what the answer tells, and then what is still written after it. Behind a
+-- What is still written before an answer is what the answer tells, and then what is still written after it. After a
 -- refusal nothing is.
 abbrev pub Gives : (List ℕ → List ℕ) → (List ℕ → List ℕ) → Result (Option Record) RunFault → Type 0
 Gives before after (Ok r) = (rest : List ℕ) → before rest ≡ bytes_of r ++ after rest

@@ -80,7 +80,7 @@ pub record WorkedRuns : Type 0 where
   pub long_table_cut : output_of (0 ∷ 69 ∷ 1 ∷ 3 ∷ 0 ∷ 0 ∷ zeros 64) ≡ refusal 1
   pub long_table_of_other_kind : output_of (0 ∷ 69 ∷ 1 ∷ 3 ∷ 0 ∷ 0 ∷ zeros 65) ≡ refusal 3
   pub long_table : output_of (0 ∷ 69 ∷ 1 ∷ 1 ∷ 0 ∷ 16 ∷ zeros 65) ≡ refusal 4
-  -- refused events; nothing behind them is read
+  -- refused events; nothing after them is read
   pub no_such_flow : output_of (two_flows ++ arrival 2 1 ++ phase 3) ≡ refusal 6
   pub no_event : output_of (two_flows ++ (0x42 ∷ [])) ≡ refusal 16
   pub no_event_between_others : output_of (two_flows ++ (0x42 ∷ []) ++ phase 3) ≡ refusal 16

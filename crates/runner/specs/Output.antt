@@ -14,13 +14,13 @@ use Rattle.table_reference.specs.View.{own}
 use Rattle.tag_rule.specs.Rule.{start as tags_start}
 use Rattle.tag_rule.specs.Tags.{Tagged, seen}
 
--- a refusal: version 1 and its number, behind their length
+-- a refusal: version 1 and its number, after their length
 abbrev pub refusal_bytes : ℕ → List ℕ
 refusal_bytes n = framed (1 ∷ n ∷ [])
 
 -- ## The table
 
--- the first length + 2 bytes of the input, or all of a shorter input; and what stands behind them
+-- the first length + 2 bytes of the input, or all of a shorter input; and what stands after them
 abbrev pub table_part : List ℕ → List ℕ
 table_part input = take (told_length input + 2) input
 
@@ -101,7 +101,7 @@ module _ (M : Meaning) where
 abbrev pub cell_of : List ℕ → State own
 cell_of table = created own (start_of table) (lines_of table)
 
--- what is written for a table and the events behind it
+-- what is written for a table and the events after it
 abbrev pub output_by : Option Refusal → List ℕ → List ℕ → List ℕ
 output_by (Some r) table input = refusal_bytes r.number
 output_by None table input = events own (Some (cell_of table)) input

@@ -29,7 +29,7 @@ BytesOf (Arrival f n) bs = bs ≡ 0x41 ∷ f ∷ n ∷ []
 BytesOf (Phase clean) bs =
     (high : ℕ) × (low : ℕ) × (bs ≡ 0x53 ∷ high ∷ low ∷ []) × (clean ≡ be_number (high ∷ low ∷ []))
 
--- what the bytes bs come to: no event yet, or one, behind which nothing has come of the next
+-- what the bytes bs come to: no event yet, or one, after which nothing has come of the next
 abbrev pub CameTo : List ℕ → Begun → Option Event → Type 0
 CameTo bs begun None = bs ≡ begun_bytes begun
 CameTo bs begun (Some e) = BytesOf e bs × (begun ≡ Nothing)

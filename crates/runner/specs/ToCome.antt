@@ -20,7 +20,7 @@ stage_to_come Over rest = []
 abbrev pub to_come : Run → List ℕ → List ℕ
 to_come r rest = stage_to_come r.stage rest
 
--- what a run comes to behind the bytes b of its input, or that its table is refused
+-- what a run comes to after the bytes b of its input, or that its table is refused
 abbrev pub StageBehind : List ℕ → Result Stage CreationFault → Type 0
 StageBehind b (Ok s) = (rest : List ℕ) → output_of (b ++ rest) ≡ stage_to_come s rest
 StageBehind b (Err e) = (rest : List ℕ) → output_of (b ++ rest) ≡ refusal_bytes (creation_told e).number

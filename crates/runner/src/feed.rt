@@ -13,7 +13,7 @@ use record::Record;
 use std::io;
 use std::io::Write;
 
-/// The bytes of a refusal: version 1 and its number, behind their length.
+/// The bytes of a refusal: version 1 and its number, after their length.
 pub(crate) fn refusal_bytes(fault: RunFault) -> [u8; 4]
     ensures { result ≡ refusal_bytes (run_number fault) }
 {

@@ -4,7 +4,7 @@ use fault::{CreationFault, LineFault};
 use octets::big_endian::BigEndian;
 use table::Table;
 
-/// A table that is longer than any flow count makes it. It is refused in any event: once its bytes have come, or if the
+/// A table that is longer than any flow count makes it. It is refused in any case: once its bytes have come, or if the
 /// input ends before they have.
 #[derive(Drop)]
 pub(crate) struct LongTable {

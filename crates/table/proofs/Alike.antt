@@ -49,7 +49,7 @@ line_set x y p q =
     }
 
 -- the facts in a table's ghost fields make no difference
-pub table_same :
+table_same :
     (s t : Table)
     → s.kind ≡ t.kind → s.lookahead ≡ t.lookahead → s.flow_count ≡ t.flow_count → s.lines ≡ t.lines
     → s ≡ t

@@ -4,27 +4,27 @@ use Rattle.std.proofs.lemmas.List.{get_or-take, length-take-le, take_all}
 use Rattle.std.proofs.lemmas.Bool.{cases_lt}
 use Rattle.std.proofs.lemmas.Option.{none-some}
 use Rattle.std.proofs.lemmas.Bool.Decides.{nat_tests}
+use Rattle.std.specs.Option.{option_or}
 use Rattle.octets.specs.BigEndian.{Bytes, byte_at}
-use Rattle.fault.specs.Faults.{refused}
+use Rattle.fault.specs.Faults.{refusal_of}
 use Rattle.table.specs.Lines.{kind_numbered}
-use Rattle.octets.specs.Conditions.{or_else}
 use Rattle.table.specs.Refusals.{frame_refusal, fields_refusal, lines_refusal, table_refusal, TableRead}
 use Rattle.table.specs.declared.Table.{Table}
 use Rattle.fault.specs.declared.Layer.TheVariants.{Frame}
 use Rattle.fault.specs.declared.LineFault.{LineFault}
 
 -- more bytes than any length tells
-too_long : (b : List ℕ) → byte_at b 0 < 256 → byte_at b 1 < 256 → 65538 ≤ length b → table_refusal b ≡ Some (refused 1 0 Frame)
+too_long : (b : List ℕ) → byte_at b 0 < 256 → byte_at b 1 < 256 → 65538 ≤ length b → table_refusal b ≡ Some (refusal_of 1 0 Frame)
 too_long b h0 h1 l =
-    let f : frame_refusal b ≡ Some (refused 1 0 Frame) = grind (arith, nat_tests) in
+    let f : frame_refusal b ≡ Some (refusal_of 1 0 Frame) = grind (arith, nat_tests) in
     ap
     (λ o.
-    or_else (or_else o (fields_refusal b (kind_numbered (byte_at b 3)))) (lines_refusal b (kind_numbered (byte_at b 3))))
+    option_or (option_or o (fields_refusal b (kind_numbered (byte_at b 3)))) (lines_refusal b (kind_numbered (byte_at b 3))))
     f
 
 too_long_alike :
     (b c : List ℕ) (x : Result Table LineFault)
-    → table_refusal c ≡ Some (refused 1 0 Frame) → table_refusal b ≡ Some (refused 1 0 Frame)
+    → table_refusal c ≡ Some (refusal_of 1 0 Frame) → table_refusal b ≡ Some (refusal_of 1 0 Frame)
     → TableRead c x → TableRead b x
 too_long_alike b c (Ok t) hc hb h = absurd (none-some _ (sym h.0 ∙ hc))
 too_long_alike b c (Err e) hc hb h = hb ∙ sym hc ∙ h

@@ -11,7 +11,7 @@ use Rattle.table.specs.declared.Table.{Table}
 use Rattle.table.proofs.Reading.{flow_line_fits}
 pub use Rattle.table.proofs.Writing.{flow_lines_length}
 
-pub in_range : (n : ℕ) → one_to_sixteen n ≡ true → (1 ≤ n) × (n ≤ 16)
+in_range : (n : ℕ) → one_to_sixteen n ≡ true → (1 ≤ n) × (n ≤ 16)
 in_range n h =
     let p = and_parts (leb 1 n) (leb n 16) h in
     (leb-true 1 n p.0, leb-true n 16 p.1)

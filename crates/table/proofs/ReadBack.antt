@@ -1,14 +1,13 @@
 -- A table that was written is read back.
 use Rattle.std.proofs.Common.{◌≡◌, ℕ, ◌+◌, ◌*◌, List, ◌∷◌, length, Some, None, Ok, Err, Result, sym, ap, ◌∙◌, arith}
-use Rattle.std.specs.Option.{option_map}
+use Rattle.std.specs.Option.{option_map, option_or}
 use Rattle.std.specs.List.{flat_map}
 use Rattle.std.proofs.lemmas.Option.{none-some}
 use Rattle.std.proofs.lemmas.Bool.Decides.{nat_tests}
 use Rattle.octets.specs.BigEndian.{told_length}
-use Rattle.fault.specs.Faults.{refused}
+use Rattle.fault.specs.Faults.{refusal_of}
 use Rattle.table.specs.Lines.{kind_number, kind_numbered, line_bytes}
 use Rattle.table.specs.Layout.{flow_lines, table_bytes}
-use Rattle.octets.specs.Conditions.{or_else}
 use Rattle.table.specs.Refusals.{frame_refusal, fields_refusal, header_refusal, lines_refusal, table_refusal, TableRead}
 use Rattle.fault.specs.declared.Layer.TheVariants.{Line as InLine}
 use Rattle.fault.specs.declared.LineFault.{LineFault}
@@ -19,7 +18,7 @@ use Rattle.table.proofs.Writing.{length_line_bytes, length_table_bytes}
 use Rattle.table.proofs.Alike.{kind_back, tables_alike}
 
 module _ (t : Table) where
-  -- the bytes behind the length
+  -- the bytes after the length
   abbrev body : List ℕ
   body = 1 ∷ kind_number t.kind ∷ t.lookahead ∷ t.flow_count ∷ flat_map line_bytes (flow_lines t)
 
@@ -44,9 +43,9 @@ module _ (t : Table) where
       grind (arith, nat_tests)
 
   lines_unrefused : lines_refusal (table_bytes t) (Some t.kind) ≡ None
-  lines_unrefused = ap (option_map (λ i. refused 5 i InLine)) (none_from_fit t.kind 6 (flow_lines t) t.fit)
+  lines_unrefused = ap (option_map (λ i. refusal_of 5 i InLine)) (none_from_fit t.kind 6 (flow_lines t) t.fit)
 
-  pub table_unrefused : table_refusal (table_bytes t) ≡ None
+  table_unrefused : table_refusal (table_bytes t) ≡ None
   table_unrefused =
       let k = kind_back t.kind in
       let a = frame_unrefused in
@@ -54,8 +53,8 @@ module _ (t : Table) where
       let c = lines_unrefused in
       let e : fields_refusal (table_bytes t) (kind_numbered (kind_number t.kind)) ≡ None = ap (fields_refusal (table_bytes t)) k ∙ b in
       let f : lines_refusal (table_bytes t) (kind_numbered (kind_number t.kind)) ≡ None = ap (lines_refusal (table_bytes t)) k ∙ c in
-      let h : header_refusal (table_bytes t) ≡ None = ap (λ o. or_else o (fields_refusal (table_bytes t) (kind_numbered (kind_number t.kind)))) a ∙ e in
-      ap (λ o. or_else o (lines_refusal (table_bytes t) (kind_numbered (kind_number t.kind)))) h ∙ f
+      let h : header_refusal (table_bytes t) ≡ None = ap (λ o. option_or o (fields_refusal (table_bytes t) (kind_numbered (kind_number t.kind)))) a ∙ e in
+      ap (λ o. option_or o (lines_refusal (table_bytes t) (kind_numbered (kind_number t.kind)))) h ∙ f
 
   pub table_read_back : (r : Result Table LineFault) → TableRead (table_bytes t) r → r ≡ Ok t
   table_read_back (Ok s) h = ap Ok (tables_alike s t h.1)

@@ -1,6 +1,6 @@
 -- A table against its bytes: what reading finds is what was written, and the other way round.
 use Rattle.std.proofs.Common.{◌≤◌, nat_lt, MatchOption, ◌/◌, take, sum_by, ◌≡◌, ℕ, ◌+◌, ◌-◌, ◌*◌, ◌<◌, Bool, true, false, cond, ◌&&◌, List, [], ◌∷◌, ◌++◌, length, get_or, drop, Some, None, Option, sym, refl, ap, ◌∙◌, arith, length-drop}
-use Rattle.std.specs.Option.{option_map}
+use Rattle.std.specs.Option.{option_map, option_or}
 use Rattle.std.specs.List.{flat_map, AllZip}
 use Rattle.std.specs.Simd.{first_chunks}
 use Rattle.std.proofs.lemmas.List.{get_or-take, take_rest}
@@ -9,12 +9,11 @@ use Rattle.std.proofs.lemmas.Option.{none-some}
 use Rattle.std.proofs.lemmas.List.Recursion.{and_at, is_sum_by}
 use Rattle.std.proofs.lemmas.Bool.Decides.{nat_tests}
 use Rattle.octets.specs.BigEndian.{Bytes, be_bytes, framed, byte_at, told_length}
-use Rattle.fault.specs.Faults.{refused}
+use Rattle.fault.specs.Faults.{refusal_of}
 use Rattle.octets.specs.Ranges.{one_to_sixteen}
 use Rattle.table.specs.Lines.{kind_number, kind_numbered, delay_weight_fits, line_fits, lines_fit, no_line, weights_sum, line_bytes}
 use Rattle.table.specs.Layout.{flow_lines, line_of}
 use Rattle.table.specs.Layers.{GoodHeader}
-use Rattle.octets.specs.Conditions.{or_else}
 use Rattle.table.specs.Refusals.{lines_refusal, wrong_byte, table_refusal}
 use Rattle.fault.specs.declared.Layer.TheVariants.{Line as InLine}
 use Rattle.table.specs.declared.line.Kind.{Kind}
@@ -102,16 +101,16 @@ weights_sum_by = is_sum_by weights_sum (λ l. l.weight) refl (λ _ _. refl)
 
 -- What reading finds.
 
--- what lines say that were made of all the bytes behind a header
+-- what lines say that were made of all the bytes after a header
 pub record AsRead (b : List ℕ) (h : Header) (ls : List Line) : Type 0 where
   -- they decide whether the bytes are refused
-  pub refusal : table_refusal b ≡ option_map (λ i. refused 5 i InLine) (wrong_byte h.kind 6 (flat_map line_bytes ls))
+  pub refusal : table_refusal b ≡ option_map (λ i. refusal_of 5 i InLine) (wrong_byte h.kind 6 (flat_map line_bytes ls))
   -- and the bytes of the table that is made of them are those that were read
   pub whole :
       Bytes b → framed (1 ∷ kind_number h.kind ∷ h.lookahead ∷ h.flow_count ∷ flat_map line_bytes ls) ≡ b
 
 module _ (b : List ℕ) (h : Header) (good : GoodHeader b h) where
-  -- lines that have all the bytes behind a good header
+  -- lines that have all the bytes after a good header
   lines_read : (ls : List Line) → flat_map line_bytes ls ≡ drop 6 b → AsRead b h ls
   lines_read ls e =
       let body = 1 ∷ kind_number h.kind ∷ h.lookahead ∷ h.flow_count ∷ flat_map line_bytes ls in
@@ -121,9 +120,9 @@ module _ (b : List ℕ) (h : Header) (good : GoodHeader b h) where
       let f = listed_front 0 6 b (omega (arith, good.long)) in
       record {
         refusal =
-            ap (λ r. or_else r (lines_refusal b (kind_numbered (byte_at b 3)))) good.unrefused
+            ap (λ r. option_or r (lines_refusal b (kind_numbered (byte_at b 3)))) good.unrefused
             ∙ ap (lines_refusal b) good.named
-            ∙ ap (λ xs. option_map (λ i. refused 5 i InLine) (wrong_byte h.kind 6 xs)) (sym e);
+            ∙ ap (λ xs. option_map (λ i. refusal_of 5 i InLine) (wrong_byte h.kind 6 xs)) (sym e);
         whole =
             λ small.
             let w : be_bytes 2 (told_length b) ≡ get_or b 0 0 ∷ get_or b 1 0 ∷ [] =
@@ -131,7 +130,7 @@ module _ (b : List ℕ) (h : Header) (good : GoodHeader b h) where
             ap (λ front. front ++ body) (ap (be_bytes 2) t ∙ w) ∙ (cc);
       }
 
-  -- the lines that are made of the rows behind a good header are as many as it tells, and have all the bytes there
+  -- the lines that are made of the rows after a good header are as many as it tells, and have all the bytes there
   pub rows_read :
       (lines : List Line) (rows : List (List ℕ))
       → rows ≡ first_chunks 4 (length (take (length b - 6) (drop 6 b)) / 4) (take (length b - 6) (drop 6 b))

@@ -2,7 +2,7 @@
 use Rattle.std.specs.Prelude.{◌≡◌, ℕ, ◌+◌, ◌*◌, ◌≤◌, true, cond, List, length, Some, None, Ok, Err, Result}
 use Rattle.std.specs.Option.{option_map}
 use Rattle.octets.specs.BigEndian.{byte_at, told_length}
-use Rattle.fault.specs.Faults.{refused, frame_told, header_told, line_told}
+use Rattle.fault.specs.Faults.{refusal_of, frame_told, header_told, line_told}
 use Rattle.octets.specs.Ranges.{one_to_sixteen}
 use Rattle.table.specs.Lines.{kind_numbered, kind_number, lookahead_fits, delay_weight_fits, line_fits}
 use Rattle.table.specs.Refusals.{frame_refusal, header_refusal, wrong_byte}
@@ -48,11 +48,11 @@ abbrev pub LineChecked : Kind → ℕ → Line → Result Unit LineFault → Typ
 LineChecked k f l (Ok _) = line_fits k l ≡ true
 LineChecked k f l (Err e) =
     cond (one_to_sixteen l.weight)
-    (cond (delay_weight_fits k l.delay_weight) None (Some (refused 5 (7 + 4 * f) InLine)))
-    (Some (refused 5 (6 + 4 * f) InLine))
+    (cond (delay_weight_fits k l.delay_weight) None (Some (refusal_of 5 (7 + 4 * f) InLine)))
+    (Some (refusal_of 5 (6 + 4 * f) InLine))
     ≡ Some (line_told e)
 
 -- checking all lines
 abbrev pub LinesChecked : Kind → List ℕ → Result Unit LineFault → Type 0
 LinesChecked k b (Ok _) = wrong_byte k 6 b ≡ None
-LinesChecked k b (Err e) = option_map (λ i. refused 5 i InLine) (wrong_byte k 6 b) ≡ Some (line_told e)
+LinesChecked k b (Err e) = option_map (λ i. refusal_of 5 i InLine) (wrong_byte k 6 b) ≡ Some (line_told e)

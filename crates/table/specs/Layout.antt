@@ -18,7 +18,7 @@ lookahead_of t = t.lookahead
 abbrev pub flow_lines : Table → List Line
 flow_lines t = take t.flow_count t.lines
 
--- version 1, kind, lookahead, flow count and the lines, behind their length
+-- version 1, kind, lookahead, flow count and the lines, after their length
 abbrev pub table_bytes : Table → List ℕ
 table_bytes t =
     framed (1 ∷ kind_number t.kind ∷ t.lookahead ∷ t.flow_count ∷ flat_map line_bytes (flow_lines t))

@@ -1,9 +1,9 @@
 -- For which bytes a table is refused, and by which refusal. The conditions are tried in the order of their numbers.
 use Rattle.std.specs.Prelude.{◌≡◌, ℕ, ◌+◌, ◌*◌, cond, not, ◌||◌, List, [], ◌∷◌, length, drop, Some, None, Ok, Err, Option, Result, ◌==◌, nat_lt}
-use Rattle.std.specs.Option.{option_map}
-use Rattle.octets.specs.Conditions.{first_of, or_else}
+use Rattle.std.specs.Option.{option_map, option_or}
+use Rattle.octets.specs.Conditions.{first_of}
 use Rattle.octets.specs.BigEndian.{byte_at, told_length}
-use Rattle.fault.specs.Faults.{refused, header_told, line_told}
+use Rattle.fault.specs.Faults.{refusal_of, header_told, line_told}
 use Rattle.octets.specs.Ranges.{one_to_sixteen}
 use Rattle.table.specs.Lines.{kind_numbered, lookahead_fits, delay_weight_fits}
 use Rattle.table.specs.Layout.{table_bytes}
@@ -17,21 +17,21 @@ use Rattle.table.specs.declared.Table.{Table}
 abbrev pub frame_refusal : List ℕ → Option Refusal
 frame_refusal b =
     first_of
-    ((nat_lt (length b) 6 || not (length b == 2 + told_length b), refused 1 0 Frame)
-    ∷ (not (byte_at b 2 == 1), refused 2 2 Frame)
+    ((nat_lt (length b) 6 || not (length b == 2 + told_length b), refusal_of 1 0 Frame)
+    ∷ (not (byte_at b 2 == 1), refusal_of 2 2 Frame)
     ∷ [])
 
 -- the rest of the header, once the kind is known or is none
 abbrev pub fields_refusal : List ℕ → Option Kind → Option Refusal
-fields_refusal b None = Some (refused 3 3 Header)
+fields_refusal b None = Some (refusal_of 3 3 Header)
 fields_refusal b (Some k) =
     first_of
-    ((not (lookahead_fits k (byte_at b 4)), refused 3 4 Header)
-    ∷ (not (one_to_sixteen (byte_at b 5)) || not (told_length b == 4 + 4 * byte_at b 5), refused 4 5 Header)
+    ((not (lookahead_fits k (byte_at b 4)), refusal_of 3 4 Header)
+    ∷ (not (one_to_sixteen (byte_at b 5)) || not (told_length b == 4 + 4 * byte_at b 5), refusal_of 4 5 Header)
     ∷ [])
 
 abbrev pub header_refusal : List ℕ → Option Refusal
-header_refusal b = or_else (frame_refusal b) (fields_refusal b (kind_numbered (byte_at b 3)))
+header_refusal b = option_or (frame_refusal b) (fields_refusal b (kind_numbered (byte_at b 3)))
 
 -- the first wrong byte of lines of four bytes each, of which the first begins at byte i
 abbrev pub wrong_byte : Kind → ℕ → List ℕ → Option ℕ
@@ -44,10 +44,10 @@ wrong_byte k i (w ∷ d ∷ lag ∷ lead ∷ rest) =
 
 abbrev pub lines_refusal : List ℕ → Option Kind → Option Refusal
 lines_refusal b None = None
-lines_refusal b (Some k) = option_map (λ i. refused 5 i Line) (wrong_byte k 6 (drop 6 b))
+lines_refusal b (Some k) = option_map (λ i. refusal_of 5 i Line) (wrong_byte k 6 (drop 6 b))
 
 abbrev pub table_refusal : List ℕ → Option Refusal
-table_refusal b = or_else (header_refusal b) (lines_refusal b (kind_numbered (byte_at b 3)))
+table_refusal b = option_or (header_refusal b) (lines_refusal b (kind_numbered (byte_at b 3)))
 
 -- Reading the bytes b: the table that has just these bytes, or the refusal.
 abbrev pub TableRead : List ℕ → Result Table LineFault → Type 0

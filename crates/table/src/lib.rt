@@ -21,8 +21,8 @@ pub struct Table {
     kind: Kind,
     lookahead: u8,
     flow_count: u8,
-    // An array of 16 beside its count, with a slice and a question over it, as in both references: these types are Copy,
-    // which an ArrayVec is not, and which a struct over [T; 16] with facts cannot derive.
+    // An array of 16 beside its count, with a slice and a question over it, as in both references: these types are
+    // Copy, which an ArrayVec is not, and which a struct over [T; 16] with facts cannot derive.
     lines: [Line; 16],
     ghost some: { 1 ≤ flow_count },
     ghost few: { flow_count ≤ 16 },

@@ -1,7 +1,7 @@
-ghost use Rattle.std.specs.Prelude.{◌≡◌, ℕ, ◌-◌, ◌≤◌, List, map, length, take, drop, replicate, Ok, Result};
+ghost use Rattle.std.specs.Prelude.{◌≡◌, ℕ, ◌≤◌, List, length, take, Ok, Result};
 ghost use Rattle.std.specs.List.{flat_map};
 ghost use Rattle.octets.specs.BigEndian.{Bytes};
-ghost use Rattle.table.specs.Lines.{no_line, line_bytes};
+ghost use Rattle.table.specs.Lines.{line_bytes};
 ghost use Rattle.table.specs.Layout.{table_bytes};
 ghost use Rattle.table.specs.Layers.{LinesChecked};
 ghost use Rattle.table.specs.Refusals.{FlowCountTold, TableRead};
@@ -53,7 +53,8 @@ impl Table {
         checked(bytes)
     }
 
-    /// The flow count that the bytes of a table tell, if they are right up to their header. Their lines are not looked at.
+    /// The flow count that the bytes of a table tell, if they are right up to their header. Their lines are not looked
+    /// at.
     pub fn told_flow_count(bytes: &[u8]) -> Result<u8, HeaderFault>
         ensures { FlowCountTold bytes.now result }
     {

@@ -14,7 +14,7 @@ impl Table {
     fn bytes(&self) -> ArrayVec<u8, MOST_BYTES>
         ensures { result.items ≡ table_bytes self.now }
     {
-        // The length counts the four bytes behind it, and four for each line.
+        // The length counts the four bytes after it, and four for each line.
         let [high, low] = (4 + 4 * u16::from(self.flow_count)).to_bytes();
         let header = [
             high,

@@ -11,6 +11,8 @@ mod of;
 /// The reference that a table asks for. It is a reference itself, so code that asks it for turns needs no match.
 #[derive(Drop)]
 pub enum TableReference {
+    /// That of kind 1.
     RoundRobin(RoundRobin),
+    /// That of kind 2.
     Tags(Tags),
 }

@@ -191,10 +191,10 @@ at : ℕ → List Stamp → Tagged
 at p ss = record { stamps = ss; lookahead = p }
 
 module _ (b : Bool) (h : Tagged) (f : ℕ) where
-  pub switch_numbers : SameNumbers tags h (set_due b h f)
+  switch_numbers : SameNumbers tags h (set_due b h f)
   switch_numbers = changed_numbers h.lookahead h.stamps f (flagged b (stamp_at h.stamps f)) refl
 
-  pub switch_sound : Sound h → Sound (set_due b h f)
+  switch_sound : Sound h → Sound (set_due b h f)
   switch_sound s =
       changed_sound h.lookahead h.stamps f (flagged b (stamp_at h.stamps f)) refl s
       (λ l. stamp_kept h.lookahead h.stamps f s.kept l)
@@ -282,7 +282,7 @@ after_sound h s =
     changed_sound h.lookahead h.stamps f (charged (stamp_at h.stamps f)) refl s
     (λ l. charged_kept h.lookahead (stamp_at h.stamps f) (stamp_kept h.lookahead h.stamps f s.kept l) m.2))
 
-pub turn_numbers : (h : Tagged) → Sound h → SameNumbers tags h (after_turn h)
+turn_numbers : (h : Tagged) → Sound h → SameNumbers tags h (after_turn h)
 turn_numbers h s =
     after_ind h (SameNumbers tags h) s
     (record { flows = refl; weight = λ _. refl; allowance = λ _. refl; total = refl })

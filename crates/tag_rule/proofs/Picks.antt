@@ -59,7 +59,7 @@ picked_eligible v p ss f q = split (entries v p 0 ss) refl
         let b = best_entry v p ss x xs e f r in
         (b.0, b.1)
 
-pub soonest_none : (es : List Entry) → soonest es ≡ None → es ≡ []
+soonest_none : (es : List Entry) → soonest es ≡ None → es ≡ []
 soonest_none [] q = refl
 soonest_none (e ∷ es) q = let z : ◌≡◌ {A = ℕ} 0 1 = cc in absurd (omega arith)
 

@@ -1,5 +1,5 @@
--- The rule of tags: of the due flows that are not too far ahead, the one that would finish first. Start tags and virtual
--- time count from 0 and only grow.
+-- The rule of tags: of the due flows that are not too far ahead, the one that would finish first. Start tags and
+-- virtual time count from 0 and only grow.
 use Rattle.std.specs.Prelude.{◌≡◌, ℕ, ◌+◌, ◌*◌, ◌/◌, ◌<◌, ◌≤◌, min, max, Bool, true, false, cond, ◌&&◌, ◌||◌, ◌⊎◌, List, [], ◌∷◌, map, Some, None, Option, ◌==◌, nat_le, nat_lt, slice_index_or, slice_set}
 use Rattle.std.specs.List.{best_of}
 use Rattle.reference.specs.Calls.{Call}
@@ -55,8 +55,8 @@ soonest (e ∷ es) = Some (best_of sooner e es).flow
 abbrev pub marked : Clock → Option ℕ
 marked c = soonest (entries c.time c.lookahead 0 c.stamps)
 
--- What that says: no flow is marked only if none is eligible. A marked flow is eligible, and every eligible flow has a larger
--- finish tag, or the same one and no lower number.
+-- What that says: no flow is marked only if none is eligible. A marked flow is eligible, and every eligible flow has a
+-- larger finish tag, or the same one and no lower number.
 abbrev pub FirstToFinish : Clock → Option ℕ → Type 0
 FirstToFinish c None = (g : ℕ) → eligible c.time c.lookahead (stamp_at c.stamps g) ≡ false
 FirstToFinish c (Some f) =

@@ -1,5 +1,5 @@
-//! The rule of tags and what it means: definitions, the proofs of the laws, and the values that the code holds, which are a
-//! flow's stamp and its entry.
+//! The rule of tags and what it means: definitions, the proofs of the laws, and the values that the code holds, which
+//! are a flow's stamp and its entry.
 
 #![tactic(auto)]
 

@@ -1,12 +1,11 @@
--- What a tally holds of a flow is what is told of it: a record is of 16 flows at most.
+-- What the counts hold of a flow is what is told of it: a record is of 16 flows at most.
 use Rattle.std.proofs.Common.{◌≡◌, ℕ, ◌<◌, ◌≤◌, Bool, true, false, cond, refl, rules, length, List, [], ◌∷◌, map, max, Some, None, Option, nat_lt, slice_get, ap, ◌∙◌, arith}
 use Rattle.std.specs.List.{fold, range_with_len}
 use Rattle.std.proofs.lemmas.Option.{slice_get-get_or}
 use Rattle.std.proofs.lemmas.List.FromFn.{get_or-map-range_with_len, length-map-range_with_len}
 use Rattle.record.specs.declared.Record.{Record}
 use Rattle.tally.specs.declared.FlowTally.{FlowTally}
-use Rattle.tally.specs.declared.Tally.{Tally}
-use Rattle.tally.specs.Counting.{flow_tally, most_flows, tally_of, nothing_counted, told_of_flow, flow_told}
+use Rattle.tally.specs.Counting.{Counts, flow_tally, most_flows, counts_of, nothing_counted, held_of_flow, flow_told}
 
 few_from : (n : ℕ) (records : List Record) → n ≤ 16 → fold (λ m r. max m r.flow_count) n records ≤ 16
 few_from n [] h = h
@@ -35,6 +34,6 @@ told_at counts n f few =
     (λ e. let inside : f < n = below f n e in held_at counts 16 f (omega arith))
 
 pub flow_is_told :
-    (records : List Record) (t : Tally) (f : ℕ) → t ≡ tally_of records → told_of_flow t f ≡ flow_told records f
-flow_is_told records t f so_far =
-    ap (λ u. told_of_flow u f) so_far ∙ told_at (flow_tally records) (most_flows records) f (few_from 0 records (omega arith))
+    (records : List Record) (c : Counts) (f : ℕ) → c ≡ counts_of records → held_of_flow c f ≡ flow_told records f
+flow_is_told records c f so_far =
+    ap (λ u. held_of_flow u f) so_far ∙ told_at (flow_tally records) (most_flows records) f (few_from 0 records (omega arith))

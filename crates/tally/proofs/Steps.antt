@@ -1,13 +1,15 @@
 -- What one more record does to the counts.
-use Rattle.std.proofs.Common.{◌≡◌, ℕ, ◌+◌, ◌<◌, Bool, true, cond, List, [], ◌∷◌, ◌++◌, map, length, min, max, count_by, is_none, slice_index_or, ap, sym, subst, ◌∙◌, arith, length-append}
+use Rattle.std.proofs.Common.{◌≡◌, ℕ, ◌+◌, ◌<◌, Bool, true, cond, List, [], ◌∷◌, ◌++◌, map, length, min, max, count_by, is_none, slice_index_or, ap, sym, ◌∙◌, arith, length-append}
 use Rattle.std.specs.List.{range_with_len}
+use Rattle.std.proofs.Math.Logic.{∥∥₁_map, ∥∥₁_elim}
+use Rattle.std.specs.Coded.{Coded-set, coded_ℕ}
 use Rattle.std.proofs.lemmas.List.Sums.{sum_by_push, fold_push}
 use Rattle.std.proofs.lemmas.List.FromFn.{fill_by_all, get_or-map-range_with_len}
+use Rattle.record.specs.Accounts.{names, free_sender, forfeited_by}
 use Rattle.record.specs.declared.Record.{Record}
 use Rattle.record.specs.Pairs.{sender_of}
 use Rattle.tally.specs.declared.FlowTally.{FlowTally}
-use Rattle.tally.specs.declared.Tally.{Tally}
-use Rattle.tally.specs.Counting.{names, free_sender, forfeited_by, counted, once_more, flow_once_more, flow_tally, most_counted, tally_of, nothing_counted}
+use Rattle.tally.specs.Counting.{Added, Counts, CountRecords, counted, once_more, flow_once_more, flow_tally, most_counted, counts_of, nothing_counted}
 
 held_once_more : (n b : ℕ) → min (n + b) most_counted ≡ min (min n most_counted + b) most_counted
 held_once_more n b = omega arith
@@ -36,58 +38,55 @@ module _ (records : List Record) (r : Record) where
         forfeited = counted_once_more (λ x. names (forfeited_by x.charge x.marked) f) records r i;
       }
 
-  -- every flow of an array that had the counts so far has one record more
-  EachOnceMore : List FlowTally → List FlowTally → Type 0
-  EachOnceMore old new =
-      (k : ℕ) (d : FlowTally) → k < length old → slice_index_or new k d ≡ flow_once_more (slice_index_or old k d) k r
-
   flows_once_more :
-      (new : List FlowTally) → length new ≡ 16
-      → EachOnceMore (map (flow_tally records) (range_with_len 0 16)) new
+      (old new : List FlowTally) → old ≡ map (flow_tally records) (range_with_len 0 16) → length new ≡ 16
+      → ((f : ℕ) → f < 16 → slice_index_or new f nothing_counted ≡ flow_once_more (slice_index_or old f nothing_counted) f r)
       → new ≡ map (flow_tally (records ++ r ∷ [])) (range_with_len 0 16)
-  unfolding EachOnceMore
-  flows_once_more new sized each =
+  flows_once_more old new so_far sized each =
       fill_by_all (flow_tally (records ++ r ∷ [])) new 16 nothing_counted sized
-      (λ k h.
-      each k nothing_counted h
-      ∙ ap (λ t. flow_once_more t k r) (get_or-map-range_with_len (flow_tally records) 0 16 k k nothing_counted h (omega arith))
-      ∙ flow_tally_once_more k)
+      (λ f h.
+      each f h
+      ∙ ap (λ t. flow_once_more t f r)
+      (ap (λ flows. slice_index_or flows f nothing_counted) so_far
+      ∙ get_or-map-range_with_len (flow_tally records) 0 16 f f nothing_counted h (omega arith))
+      ∙ flow_tally_once_more f)
 
-  -- all counts of a tally, which had the counts so far
-  pub tally_once_more :
-      (t : Tally) → t ≡ tally_of records → {slots idle unmarked flow_count : ℕ} (flows : List FlowTally)
-      → slots ≡ once_more t.slots true
-      → idle ≡ once_more t.idle (is_none (sender_of r.taking))
-      → unmarked ≡ once_more t.unmarked (is_none r.marked)
-      → flow_count ≡ max t.flow_count r.flow_count
-      → length flows ≡ length t.flows
-      → ((k : ℕ) (d : FlowTally)
-      → k < length t.flows → slice_index_or flows k d ≡ flow_once_more (slice_index_or t.flows k d) k r)
-      → ◌≡◌ {A = Tally}
-      record { slots = slots; idle = idle; unmarked = unmarked; flow_count = flow_count; flows = flows }
-      (tally_of (records ++ r ∷ []))
-  unfolding EachOnceMore
-  tally_once_more t so_far flows slots-is idle-is unmarked-is flow_count-is sized each =
+  -- what held the counts so far holds then those of all
+  pub counts_once_more :
+      (old new : Counts) → old ≡ counts_of records → length new.flows ≡ length old.flows → Added old r new
+      → new ≡ counts_of (records ++ r ∷ [])
+  counts_once_more old new so_far sized added =
       λ i.
       record {
-        slots = (slots-is ∙ ap (λ u. once_more u.slots true) so_far ∙ length_once_more records r) i;
+        slots = (added.slots ∙ ap (λ c. once_more c.slots true) so_far ∙ length_once_more records r) i;
         idle =
-            (idle-is
-            ∙ ap (λ u. once_more u.idle (is_none (sender_of r.taking))) so_far
+            (added.idle
+            ∙ ap (λ c. once_more c.idle (is_none (sender_of r.taking))) so_far
             ∙ counted_once_more (λ x. is_none (sender_of x.taking)) records r)
             i;
         unmarked =
-            (unmarked-is
-            ∙ ap (λ u. once_more u.unmarked (is_none r.marked)) so_far
+            (added.unmarked
+            ∙ ap (λ c. once_more c.unmarked (is_none r.marked)) so_far
             ∙ counted_once_more (λ x. is_none x.marked) records r)
             i;
         flow_count =
-            (flow_count-is
-            ∙ ap (λ u. max u.flow_count r.flow_count) so_far
+            (added.flow_count
+            ∙ ap (λ c. max c.flow_count r.flow_count) so_far
             ∙ sym (fold_push (λ n x. max n x.flow_count) 0 records r))
             i;
         flows =
-            flows_once_more flows (sized ∙ ap (λ u. length u.flows) so_far)
-            (subst (λ u. EachOnceMore u.flows flows) so_far each)
+            flows_once_more old.flows new.flows (ap (λ c. c.flows) so_far) (sized ∙ ap (λ c. length c.flows) so_far) added.flows
             i;
       }
+
+-- counts that are of some records have sixteen flows, and with one more record are of some still
+module _ (old : Counts) (h : CountRecords old) where
+  pub sixteen_flows : length old.flows ≡ 16
+  sixteen_flows = ∥∥₁_elim h (Coded-set coded_ℕ _ _) (λ p. ap (λ c. length c.flows) p.are_theirs)
+
+  pub one_more_record :
+      (new : Counts) (r : Record) → length new.flows ≡ length old.flows → Added old r new → CountRecords new
+  one_more_record new r sized added =
+      ∥∥₁_map h
+      (λ p.
+      record { records = p.records ++ r ∷ []; are_theirs = counts_once_more p.records r old new p.are_theirs sized added })

@@ -1,38 +1,10 @@
 -- What is counted over a list of records.
-use Rattle.std.specs.Prelude.{ℕ, ◌+◌, Bool, false, cond, List, map, length, Some, None, Option, ◌==◌, min, max, count_by, is_none, nat_lt, slice_get}
+use Rattle.std.specs.Prelude.{◌≡◌, ℕ, ◌+◌, ◌<◌, Bool, true, cond, List, map, length, Some, None, Option, min, max, count_by, is_none, nat_lt, slice_get, slice_index_or}
 use Rattle.std.specs.List.{fold, range_with_len}
+use Rattle.record.specs.Accounts.{names, free_sender, forfeited_by}
 use Rattle.record.specs.Pairs.{sender_of}
 use Rattle.record.specs.declared.Record.{Record}
-use Rattle.record.specs.declared.taking.Charge.{Charge}
-use Rattle.record.specs.declared.taking.Charge.TheVariants.{Nothing, LeadDown, LagUp, Forfeited}
-use Rattle.record.specs.declared.taking.Taking.{Taking}
-use Rattle.record.specs.declared.taking.Taking.TheVariants.{Idle, Own, LagRepaid, LeadCharged, Free}
 use Rattle.tally.specs.declared.FlowTally.{FlowTally}
-use Rattle.tally.specs.declared.Tally.{Tally}
-
--- ## What a record says of a flow
-
--- whether a flow is the one that is named, if one is
-abbrev pub names : Option ℕ → ℕ → Bool
-names None f = false
-names (Some g) f = g == f
-
--- the flow that sends on no account
-abbrev pub free_sender : Taking → Option ℕ
-free_sender Idle = None
-free_sender (Own f) = None
-free_sender (LagRepaid f) = None
-free_sender (LeadCharged f) = None
-free_sender (Free f) = Some f
-
--- the marked flow, if it forfeits
-abbrev pub forfeited_by : Charge → Option ℕ → Option ℕ
-forfeited_by Nothing marked = None
-forfeited_by LeadDown marked = None
-forfeited_by LagUp marked = None
-forfeited_by Forfeited marked = marked
-
--- ## Counts
 
 -- 2 ^ 64 - 1, at which a count stays
 abbrev pub most_counted : ℕ
@@ -70,9 +42,21 @@ flow_once_more t f r =
 abbrev pub most_flows : List Record → ℕ
 most_flows records = fold (λ n r. max n r.flow_count) 0 records
 
--- all counts
-abbrev pub tally_of : List Record → Tally
-tally_of records =
+-- nothing has been counted of a flow
+abbrev pub nothing_counted : FlowTally
+nothing_counted = record { marked = 0; sent = 0; free = 0; forfeited = 0 }
+
+-- all counts: of the slots, of those in which nobody sends, of those that mark nobody, and of each of sixteen flows;
+-- and the most flows that a record is of
+pub record Counts : Type 0 where
+  pub slots : ℕ
+  pub idle : ℕ
+  pub unmarked : ℕ
+  pub flow_count : ℕ
+  pub flows : List FlowTally
+
+abbrev pub counts_of : List Record → Counts
+counts_of records =
     record {
       slots = min (length records) most_counted;
       idle = counted (λ r. is_none (sender_of r.taking)) records;
@@ -81,13 +65,27 @@ tally_of records =
       flows = map (flow_tally records) (range_with_len 0 16);
     }
 
--- nothing has been counted of a flow
-abbrev pub nothing_counted : FlowTally
-nothing_counted = record { marked = 0; sent = 0; free = 0; forfeited = 0 }
+-- records of which these are the counts; and that there are such records
+pub record CountsOf (c : Counts) : Type 0 where
+  pub records : List Record
+  pub are_theirs : c ≡ counts_of records
 
--- the counts of flow f that a tally holds, if a record is of so many flows
-abbrev pub told_of_flow : Tally → ℕ → Option FlowTally
-told_of_flow t f = cond (nat_lt f t.flow_count) (slice_get t.flows f) None
+abbrev pub CountRecords : Counts → Type 0
+CountRecords c = ∥ CountsOf c ∥₁
+
+-- One more record is added: each count is one more if the record counts there, and else as it was.
+pub record Added (old : Counts) (r : Record) (new : Counts) : Type 0 where
+  pub slots : new.slots ≡ once_more old.slots true
+  pub idle : new.idle ≡ once_more old.idle (is_none (sender_of r.taking))
+  pub unmarked : new.unmarked ≡ once_more old.unmarked (is_none r.marked)
+  pub flow_count : new.flow_count ≡ max old.flow_count r.flow_count
+  pub flows :
+      (f : ℕ) → f < 16
+      → slice_index_or new.flows f nothing_counted ≡ flow_once_more (slice_index_or old.flows f nothing_counted) f r
+
+-- the counts of flow f, if a record is of so many flows
+abbrev pub held_of_flow : Counts → ℕ → Option FlowTally
+held_of_flow c f = cond (nat_lt f c.flow_count) (slice_get c.flows f) None
 
 -- what is told of flow f, of these records
 abbrev pub flow_told : List Record → ℕ → Option FlowTally

@@ -1,7 +1,9 @@
 ghost use Rattle.std.specs.Prelude.{◌≡◌, ℕ, ◌<◌, List, [], ◌∷◌, ◌++◌, length, slice_index_or};
 ghost use Rattle.record.specs.declared.Record.{Record};
 ghost use Rattle.tally.specs.declared.FlowTally.{FlowTally};
-ghost use Rattle.tally.specs.Counting.{names, nothing_counted, free_sender, forfeited_by, once_more, flow_once_more, tally_of};
+ghost use Rattle.record.specs.Accounts.{names, free_sender, forfeited_by};
+ghost use Rattle.tally.specs.Counting.{Added, once_more, flow_once_more, counts_of};
+ghost use Rattle.tally.specs.View.{tally_held};
 
 use crate::{FlowTally, Tally};
 use record::Record;
@@ -42,18 +44,6 @@ fn forfeited_by(charge: Charge, marked: Option<u8>) -> Option<u8>
 }
 
 impl FlowTally {
-    /// Nothing has been counted.
-    fn new() -> FlowTally
-        ensures { result ≡ nothing_counted }
-    {
-        FlowTally {
-            marked: 0,
-            sent: 0,
-            free: 0,
-            forfeited: 0,
-        }
-    }
-
     /// Counts one more record, for the flow that has this number.
     fn add(&mut self, flow: usize, latest: &Record)
         ensures { self.new ≡ flow_once_more self.old flow latest.now }
@@ -80,26 +70,41 @@ fn add_to_each(flows: &mut [FlowTally], latest: &Record)
 impl Tally {
     /// The counts of no record.
     pub fn new() -> Tally
-        ensures { result ≡ tally_of [] }
+        ensures { tally_held result ≡ counts_of [] }
     {
         Tally {
             slots: 0,
             idle: 0,
             unmarked: 0,
             flow_count: 0,
-            flows: [FlowTally::new(); 16],
+            flows: [FlowTally::default(); 16],
         }
     }
 
     /// Counts one more record. Whatever records were added before, the counts are then those of all of them and this
     /// one.
     pub fn add(&mut self, latest: &Record)
-        ensures { (records : List Record) → self.old ≡ tally_of records → self.new ≡ tally_of (records ++ latest.now ∷ []) }
+        ensures exact { Added (tally_held self.old) latest.now (tally_held self.new) }
+        ensures of_all { (records : List Record) → tally_held self.old ≡ counts_of records → tally_held self.new ≡ counts_of (records ++ latest.now ∷ []) }
     {
-        self.slots = once_more(self.slots, true);
-        self.idle = once_more(self.idle, latest.taking().sender().is_none());
-        self.unmarked = once_more(self.unmarked, latest.marked().is_none());
-        self.flow_count = self.flow_count.max(latest.flow_count());
-        add_to_each(&mut self.flows, latest);
+        // On a copy: nothing of a tally can be lent for writing, since its counts go together.
+        let mut flows = self.flows;
+        add_to_each(&mut flows, latest);
+        *self = Tally {
+            slots: once_more(self.slots, true),
+            idle: once_more(self.idle, latest.taking().sender().is_none()),
+            unmarked: once_more(self.unmarked, latest.marked().is_none()),
+            flow_count: self.flow_count.max(latest.flow_count()),
+            flows,
+        };
+    }
+}
+
+/// The counts of no record.
+impl Default for Tally {
+    ghost is_default = { λ tally. tally_held tally ≡ counts_of [] };
+
+    fn default() -> Tally {
+        Tally::new()
     }
 }

@@ -2,11 +2,13 @@
 
 #![tactic(auto)]
 
+ghost use Rattle.tally.specs.Counting.{CountRecords};
+
 mod adding;
 mod questions;
 
 /// What was counted of one flow.
-#[derive(Clone, Copy, PartialEq, Eq, Debug)]
+#[derive(Clone, Copy, PartialEq, Eq, Debug, Default)]
 pub struct FlowTally {
     /// Slots that were its turn.
     pub marked: u64,
@@ -18,7 +20,8 @@ pub struct FlowTally {
     pub forfeited: u64,
 }
 
-/// Counts over records, which are added one by one. A count that comes to the greatest `u64` stays there.
+/// Counts over records, which are added one by one: always those of some records. A count that comes to the greatest
+/// `u64` stays there.
 #[derive(Clone, Copy, PartialEq, Eq, Debug)]
 pub struct Tally {
     slots: u64,
@@ -27,4 +30,5 @@ pub struct Tally {
     // The most of any record so far; nothing is counted of the flows from there on.
     flow_count: u8,
     flows: [FlowTally; 16],
+    ghost of_records: { CountRecords (record { slots = slots; idle = idle; unmarked = unmarked; flow_count = flow_count; flows = flows }) },
 }

@@ -1,6 +1,7 @@
 ghost use Rattle.std.specs.Prelude.{◌≡◌, List};
 ghost use Rattle.record.specs.declared.Record.{Record};
-ghost use Rattle.tally.specs.Counting.{told_of_flow, tally_of, flow_told};
+ghost use Rattle.tally.specs.Counting.{held_of_flow, counts_of, flow_told};
+ghost use Rattle.tally.specs.View.{tally_held};
 
 use crate::{FlowTally, Tally};
 
@@ -35,8 +36,8 @@ impl Tally {
 
     /// The counts of one flow; none from the flow count on.
     pub fn flow(&self, flow: u8) -> Option<FlowTally>
-        ensures held { result ≡ told_of_flow self.now flow }
-        ensures counted { (records : List Record) → self.now ≡ tally_of records → result ≡ flow_told records flow }
+        ensures held { result ≡ held_of_flow (tally_held self.now) flow }
+        ensures counted { (records : List Record) → tally_held self.now ≡ counts_of records → result ≡ flow_told records flow }
     {
         if flow < self.flow_count {
             self.flows.get(usize::from(flow)).copied()

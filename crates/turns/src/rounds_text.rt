@@ -11,8 +11,11 @@ use words::SetupText;
 /// What the turns of two rounds marked, in lines for people.
 #[derive(Clone, Copy)]
 pub struct RoundsText<'a> {
+    /// The table that was read.
     pub table: Table,
+    /// Its own reference, after these turns.
     pub reference: &'a TableReference,
+    /// What each turn marked.
     pub marks: &'a [Option<u8>],
 }
 
@@ -29,8 +32,8 @@ fn write_marks<W: fmt::Write>(f: &mut fmt::Formatter<W>, marks: &[Option<u8>]) -
 }
 
 impl RoundsText<'_> {
-    /// One flow in a line: its marks against its share of two rounds, which is twice its weight, and the fewest marks that
-    /// its allowance leaves it.
+    /// One flow in a line: its marks against its share of two rounds, which is twice its weight, and the fewest marks
+    /// that its allowance leaves it.
     fn write_flow<W: fmt::Write>(&self, f: &mut fmt::Formatter<W>, flow: u8) -> fmt::Result
         requires { flow < own.flows (own_held self.now.reference.now) }
     {

@@ -31,7 +31,7 @@ fn reports_of(cell: &Cell<TableReference>, clean: u16) -> Result<ReportSet, Fail
     Ok(reports)
 }
 
-/// The clean flows of the worked example's seven slots, and what its records say behind length and version.
+/// The clean flows of the worked example's seven slots, and what its records say after length and version.
 const SEVEN_SLOTS: [(u16, [u8; 9]); 7] = [
     (2, [0, 1, 3, 2, 2, 0, 0, 0, 0]),
     (3, [1, 1, 1, 0, 2, 0, 0, 0, 1]),

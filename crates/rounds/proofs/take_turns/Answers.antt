@@ -30,7 +30,7 @@ returns g c =
     record {
       marks = e;
       after = cc;
-      due = subst (AllByRecursion (MarkIsDue M h)) (sym e) (turns_mark_due M L h n sound);
+      marks_due = subst (AllByRecursion (MarkIsDue M h)) (sym e) (turns_mark_due M L h n sound);
       shares = λ f due. subst (HasShare M h f) (sym e) (turns_have_share M L h n f sound due);
-      always = gives_shares M L h sound;
+      shares_in_any_calls = gives_shares M L h sound;
     }

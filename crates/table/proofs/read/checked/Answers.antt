@@ -1,7 +1,7 @@
 use Rattle.std.proofs.Common.{◌≡◌, ◌-◌, length, drop, replicate, length-drop, subst, take, ap, ◌∙◌, arith}
 use Rattle.std.specs.Option.{option_map}
 use Rattle.std.proofs.lemmas.Result.{err_from_is_err_and}
-use Rattle.fault.specs.Faults.{refused}
+use Rattle.fault.specs.Faults.{refusal_of}
 use Rattle.fault.specs.declared.Layer.TheVariants.{Line}
 use Rattle.table.specs.Lines.{no_line}
 use Rattle.table.proofs.LineBytes.{blank_lines}
@@ -43,4 +43,4 @@ returns c =
     c.as_chunks.ensures.front c.as_chunks.ensures.front_len c.sixteen_of-lines.ensures.made in
     let checked = c.in_ok-check_lines.ensures in
     let none = rw c.from.ensures at checked in
-    (read.1.refusal ∙ ap (option_map (λ i. refused 5 i Line)) none, read.1.whole (λ i. omega (arith, c.type_inv.bytes i)))
+    (read.1.refusal ∙ ap (option_map (λ i. refusal_of 5 i Line)) none, read.1.whole (λ i. omega (arith, c.type_inv.bytes i)))

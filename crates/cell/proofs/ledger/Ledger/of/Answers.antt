@@ -2,7 +2,7 @@ use Rattle.std.proofs.Common.{arith}
 use Rattle.std.proofs.lemmas.Slice.Zip.{AllZip-map}
 use Rattle.table.specs.Layout.{flow_lines}
 use Rattle.cell_rules.specs.Rules.{fresh}
-use Rattle.cell.proofs.LedgerFresh.{fresh_kept}
+use Rattle.cell_rules.proofs.Rows.{fresh_kept}
 use Rattle.cell.proofs.ledger.Ledger.of.Goals as goal
 
 pub invariant_of-result : goal.invariant_of-result

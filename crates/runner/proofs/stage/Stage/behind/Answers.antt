@@ -6,7 +6,7 @@ use Rattle.octets.specs.BigEndian.{told_length}
 use Rattle.table.specs.Refusals.{table_refusal}
 use Rattle.runner.specs.Output.{output_of}
 use Rattle.runner.specs.ToCome.{StageBehind}
-use Rattle.runner.proofs.Tables.{refused_behind}
+use Rattle.runner.proofs.Tables.{refused_after}
 use Rattle.runner.proofs.stage.Stage.behind.Goals as goal
 
 pub returns-in_err-of : goal.returns-in_err-of
@@ -16,7 +16,7 @@ returns-in_err-of c =
     let whole : length b ≡ told_length b + 2 =
     sym c.len.ensures.value ∙ c.if-len-whole.true ∙ c.whole_bytes-whole.ensures ∙ ap (λ xs. told_length xs + 2) c.deref.ensures.0 in
     let refused = ap table_refusal (sym c.deref-then-len-whole.ensures.0) ∙ c.in_err-of.ensures ∙ ap (λ e. Some (creation_told e)) (sym p.2) in
-    subst (StageBehind b) (sym p.1) (λ rest. refused_behind b rest (creation_told p.0) whole refused)
+    subst (StageBehind b) (sym p.1) (λ rest. refused_after b rest (creation_told p.0) whole refused)
 
 pub returns : goal.returns
 returns c =
