@@ -167,6 +167,18 @@ fn what_is_written_is_shown_before_the_input_ends(rt: HostRuntime) -> Result<(),
 }
 
 #[test]
+fn what_the_end_of_the_input_gives_is_shown(rt: HostRuntime) -> Result<(), Fail> {
+    let mut input: &[u8] = &[0x00, 0x08, 0x01];
+    let mut held = Held {
+        written: 0,
+        shown: 0,
+    };
+    run(&mut input, &mut held)?;
+    assert_eq!(rt; held.shown, 4);
+    Ok(())
+}
+
+#[test]
 fn as_many_packets_as_may_arrive(rt: HostRuntime) -> Result<(), Fail> {
     let mut run = Run::new();
     let mut output = Vec::new(rt.alloc());

@@ -98,7 +98,7 @@ fn every_refusal_in_words(rt: HostRuntime) -> Result<(), Fail> {
 }
 
 /// Inputs, and all that is shown of them.
-const INPUTS: [(&[u8], &str); 6] = [
+const INPUTS: [(&[u8], &str); 7] = [
     (&[], "slots  0, of these idle 0, nobody's turn 0\n"),
     (
         &[0, 2, 1, 8],
@@ -118,6 +118,11 @@ const INPUTS: [(&[u8], &str); 6] = [
             0, 10, 1, 255, 1, 2, 0, 3, 0, 0, 0, 8, 0, 10, 1, 255, 1, 2, 0, 2, 0, 0, 0,
         ],
         "slot 8: nobody's turn, flow 1 sends, lag repaid\nrecord 1: refused: number 13: there are not twelve bytes, or the length is not 10\n\nslots  1, of these idle 0, nobody's turn 1\ndamaged  1\n\nflow      marked        sent        free   forfeited  share of slots\n   0           0           0           0           0           0.0 %\n   1           0           1           0           0         100.0 %\n   2           0           0           0           0           0.0 %\n",
+    ),
+    // A slot whose counts differ: nobody's turn, and sent free.
+    (
+        &[0, 10, 1, 255, 0, 4, 0, 1, 0, 0, 0, 6],
+        "slot 6: nobody's turn, flow 0 sends, free\n\nslots  1, of these idle 0, nobody's turn 1\n\nflow      marked        sent        free   forfeited  share of slots\n   0           0           1           1           0         100.0 %\n",
     ),
     // Nearly a refusal.
     (
@@ -212,6 +217,36 @@ fn what_came_before_a_failure_is_shown(rt: HostRuntime) -> Result<(), Fail> {
         out.as_slice(),
         b"slot 7: nobody's turn, nobody sends\n".as_slice()
     );
+    Ok(())
+}
+
+/// An output that shows a byte only once it is flushed.
+#[derive(Drop)]
+struct Held {
+    written: usize,
+    shown: usize,
+}
+
+impl Write for Held {
+    fn write(&mut self, buf: &[u8]) -> io::Result<usize> {
+        self.written = self.written.saturating_add(buf.len());
+        Ok(buf.len())
+    }
+
+    fn flush(&mut self) -> io::Result<()> {
+        self.shown = self.written;
+        Ok(())
+    }
+}
+
+#[test]
+fn a_record_is_shown_before_the_input_ends(rt: HostRuntime) -> Result<(), Fail> {
+    let mut held = Held {
+        written: 0,
+        shown: 0,
+    };
+    assert!(rt; show(rt.alloc(), FailsAfter(&SLOTS[6].0), &mut held).is_err());
+    assert_eq!(rt; held.shown, "slot 7: nobody's turn, nobody sends\n".len());
     Ok(())
 }
 

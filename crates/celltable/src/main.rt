@@ -2,18 +2,14 @@
 
 #![tactic(auto)]
 
-use crate::table_text::TableText;
-use input::read_table;
+use crate::tell::tell;
 use std::io;
-use words::FaultText;
 
 mod table_text;
+mod tell;
 #[cfg(test)]
 mod tests;
 
 fn main(rt: HostRuntime) -> io::Result<()> {
-    match read_table(rt.alloc(), rt.stdin())? {
-        Ok(table) => rt.print(TableText(table)),
-        Err(fault) => rt.println(FaultText(fault)),
-    }
+    tell(rt.alloc(), rt.stdin(), &mut rt.stdout())
 }

@@ -1,4 +1,5 @@
 use crate::table_text::TableText;
+use crate::tell::tell;
 use std::test::Fail;
 use wire::{FrameFault, HeaderFault, LineFault, Table};
 use words::FaultText;
@@ -51,6 +52,18 @@ fn a_round_robin_table(rt: HostRuntime) -> Result<(), Fail> {
     assert_eq!(rt;
         text.as_str(),
         "kind          round robin\nlookahead     0\nflows         2\ntotal weight  3\n\nflow  weight  delay weight  lag limit  lead limit  share of slots\n   0       2             0          5         255    2/3     66.7 %\n   1       1             0          0           0    1/3     33.3 %\n"
+    );
+    Ok(())
+}
+
+#[test]
+fn a_refused_table_is_told_in_a_line(rt: HostRuntime) -> Result<(), Fail> {
+    let input: [u8; 10] = [0, 8, 1, 1, 0, 1, 17, 0, 0, 0];
+    let mut output = Vec::new(rt.alloc());
+    tell(rt.alloc(), input.as_slice(), &mut output)?;
+    assert_eq!(rt;
+        output.as_slice(),
+        b"refused: number 5, byte 6, line: the weight of flow 0 is not 1 to 16\n".as_slice()
     );
     Ok(())
 }

@@ -3,28 +3,14 @@
 
 #![tactic(auto)]
 
-use crate::rounds_text::RoundsText;
-use input::read_table;
-use rounds::two_rounds;
+use crate::tell::tell;
 use std::io;
-use table_reference::TableReference;
-use words::FaultText;
 
 mod rounds_text;
+mod tell;
 #[cfg(test)]
 mod tests;
 
 fn main(rt: HostRuntime) -> io::Result<()> {
-    match read_table(rt.alloc(), rt.stdin())? {
-        Ok(table) => {
-            let mut reference = TableReference::of(&table);
-            let marks = two_rounds(rt.alloc(), &mut reference)?;
-            rt.print(RoundsText {
-                table,
-                reference: &reference,
-                marks: &marks,
-            })
-        }
-        Err(fault) => rt.println(FaultText(fault)),
-    }
+    tell(rt.alloc(), rt.stdin(), &mut rt.stdout())
 }

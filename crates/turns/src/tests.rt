@@ -1,5 +1,5 @@
 use crate::rounds_text::RoundsText;
-use rounds::two_rounds;
+use crate::tell::tell;
 use std::test::Fail;
 use table_reference::TableReference;
 use wire::Table;
@@ -23,16 +23,35 @@ const RUNS: [(&[u8], &str); 3] = [
 #[test]
 fn two_rounds_of_tables(rt: HostRuntime) -> Result<(), Fail> {
     for (bytes, words) in RUNS.iter() {
-        let table = Table::read(*bytes)?;
-        let mut reference = TableReference::of(&table);
-        let marks = two_rounds(rt.alloc(), &mut reference)?;
-        let text = RoundsText {
-            table,
-            reference: &reference,
-            marks: &marks,
-        }
-        .to_string(rt.alloc())?;
-        assert_eq!(rt; text.as_str(), *words);
+        let mut output = Vec::new(rt.alloc());
+        tell(rt.alloc(), *bytes, &mut output)?;
+        assert_eq!(rt; String::from_utf8(output)?.as_str(), *words);
     }
+    Ok(())
+}
+
+#[test]
+fn a_refused_table_is_told_in_a_line(rt: HostRuntime) -> Result<(), Fail> {
+    let input: [u8; 10] = [0, 8, 1, 1, 0, 1, 1, 1, 0, 0];
+    let mut output = Vec::new(rt.alloc());
+    tell(rt.alloc(), input.as_slice(), &mut output)?;
+    assert_eq!(rt;
+        output.as_slice(),
+        b"refused: number 5, byte 7, line: the delay weight of flow 0 is not 1 to 16 (tags) or not 0 (round robin)\n".as_slice()
+    );
+    Ok(())
+}
+
+/// A turn that marks nobody, as the turns of a reference do over which no flow is due.
+#[test]
+fn turns_that_mark_nobody(rt: HostRuntime) -> Result<(), Fail> {
+    let table = Table::read(&[0, 8, 1, 1, 0, 1, 1, 0, 0, 0])?;
+    let text = RoundsText {
+        table,
+        reference: &TableReference::of(&table),
+        marks: &[None, Some(0)],
+    }
+    .to_string(rt.alloc())?;
+    assert!(rt; text.contains("\nround 1   -\nround 2   0\n"));
     Ok(())
 }
