@@ -5,10 +5,13 @@ use fault::{
     RunFault,
 };
 use reference::Reference;
+use round_robin::RoundRobin;
+use std::mem::size_of;
 use std::process::Abort;
 use std::test::Fail;
 use table::Table;
 use table_reference::TableReference;
+use tags::Tags;
 
 /// Two flows of weight 1 under round robin, with limits of 2.
 const TWO_FLOWS: [u8; 14] = [0, 12, 1, 1, 0, 2, 1, 0, 2, 2, 1, 0, 2, 2];
@@ -65,6 +68,29 @@ fn seven_slots_of_two_flows(rt: HostRuntime) -> Result<(), Fail> {
     };
     assert_eq!(rt; cell.flow(0), Some(first));
     assert_eq!(rt; cell.flow(2), None);
+    Ok(())
+}
+
+#[test]
+fn flags_of_the_rest(rt: HostRuntime) -> Result<(), Fail> {
+    let cell = cell_of(&TWO_FLOWS)?;
+    let mut reports = cell.open_phase()?;
+    reports.flag(0, false)?;
+    reports.flag_rest(0xffff);
+    assert!(rt; reports.has_flagged(1) && !reports.has_flagged(2));
+    assert!(rt; reports.is_clean(1) && !reports.is_clean(0) && !reports.is_clean(2));
+    let mut at_once = cell.open_phase()?;
+    at_once.flag_rest(0xfffe);
+    assert_eq!(rt; at_once, reports_of(&cell, 2)?);
+    Ok(())
+}
+
+// A cell lies in one piece, with no part of it elsewhere: so these are all of its bytes.
+#[test]
+fn a_cell_is_small(rt: HostRuntime) -> Result<(), Fail> {
+    assert_eq!(rt; size_of::<Cell<RoundRobin>>(), 512);
+    assert_eq!(rt; size_of::<Cell<Tags>>(), 660);
+    assert_eq!(rt; size_of::<Cell<TableReference>>(), 664);
     Ok(())
 }
 
