@@ -9,7 +9,7 @@ use record::Record;
 use std::mem;
 
 impl Run {
-    /// Takes a byte that is none of an event: of the table, or behind the end of the run.
+    /// Takes a byte that is none of an event: of the table, or after the run has stopped.
     // Apart from `advance`, and never inlined there: a function pays at entry for the size of its locals, and a stage is
     // large, while nearly all bytes are those of events.
     #[cold]
