@@ -6,7 +6,7 @@ use Rattle.std.proofs.lemmas.List.Folds.{find-append}
 use Rattle.std.specs.List.{find, range_with_len}
 use Rattle.std.specs.Option.{option_or}
 use Rattle.table.specs.Lines.{no_line}
-use Rattle.cell_rules.specs.Rules.{around, fresh, repayable}
+use Rattle.cell_rules.specs.Rules.{flows_around, fresh, repayable}
 use Rattle.cell_rules.specs.declared.row.Row.{Row}
 
 -- the flows from i to n are flow i and those above it
@@ -26,7 +26,7 @@ module _ (test : ℕ → Bool) (n p : ℕ) where
       (x y : Option ℕ)
       → x ≡ find test (range_with_len (p + 1) (n - (p + 1)))
       → y ≡ find test (range_with_len 0 (p + 1 - 0))
-      → option_or x y ≡ find test (around n p)
+      → option_or x y ≡ find test (flows_around n p)
   found_around x y h k =
       let e : p + 1 - 0 ≡ p + 1 = omega arith in
       (λ i. option_or (h i) ((k ∙ ap (λ m. find test (range_with_len 0 m)) e) i))
