@@ -20,7 +20,7 @@ module _ (test : ℕ → Bool) (i n : ℕ) where
   pub not_here : i < n → test i ≡ false → find test (range_with_len i (n - i)) ≡ find test (range_with_len (i + 1) (n - (i + 1)))
   not_here h t = rw (flows_from i n h, t)
 
--- A search of n flows from the one that follows flow p, around, ending at p: first above p, and else from flow 0 up to p.
+-- A search of n flows from the one that follows flow p, around, ending at p: above p, and else from flow 0 up to p.
 module _ (test : ℕ → Bool) (n p : ℕ) where
   pub found_around :
       (x y : Option ℕ)

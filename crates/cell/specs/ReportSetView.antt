@@ -31,7 +31,7 @@ pub record OneMore (s : Reports) (f : ℕ) (clean : Bool) (t : Reports) : Type 0
   pub slot : t.slot ≡ s.slot
   pub flow_count : t.flow_count ≡ s.flow_count
 
--- t is s with a flag of every flow that has none there: flow f is clean if bit f of the mask is set; nothing else differs
+-- t is s with a flag of every flow that has none there, clean if its bit of the mask is set; nothing else differs
 pub record RestFlagged (s : Reports) (mask : ℕ) (t : Reports) : Type 0 where
   pub slot : t.slot ≡ s.slot
   pub flow_count : t.flow_count ≡ s.flow_count

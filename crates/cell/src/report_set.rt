@@ -97,8 +97,8 @@ impl ReportSet {
         Ok(())
     }
 
-    /// Has every flow flag that has not yet: clean if its bit is set, that of flow 0 being the lowest, and else dirty. The
-    /// bits past the last flow are passed over.
+    /// Has every flow flag that has not yet: clean if its bit is set, and else dirty. The bit of flow 0 is the lowest;
+    /// the bits past the last flow are passed over.
     pub fn flag_rest(&mut self, clean: u16)
         ensures { RestFlagged (reports_held self.old) clean (reports_held self.new) }
     {

@@ -17,6 +17,7 @@ mod write;
 
 /// The record of one slot, which keeps every rule of its format: whoever makes or alters one shows that it does, or has
 /// `new` test it.
+// The fields are public so that a decision makes a record by proof; the questions tell the same to whoever only reads.
 #[derive(Clone, Copy, PartialEq, Eq, Debug)]
 pub struct Record {
     /// The flow whose turn it was; none where nobody was due.

@@ -58,8 +58,8 @@ abbrev pub Gives : (List ℕ → List ℕ) → (List ℕ → List ℕ) → Resul
 Gives before after (Ok r) = (rest : List ℕ) → before rest ≡ bytes_of r ++ after rest
 Gives before after (Err e) = (rest : List ℕ) → before rest ≡ refusal_bytes (run_number e)
 
--- Events were taken off the front of the bytes, which gave what is written, and left others behind; or one was refused,
--- behind what those before it gave.
+-- Events were taken off the front of the bytes, which gave what is written, and others are left; or one was refused,
+-- after what those before it gave.
 abbrev pub FrontTaken : Events → List ℕ → List ℕ → Events → List ℕ → Result Unit RunFault → Type 0
 FrontTaken before bytes written after behind (Ok _) =
     (rest : List ℕ) → events_to_come before (bytes ++ rest) ≡ written ++ events_to_come after (behind ++ rest)

@@ -39,7 +39,7 @@ abbrev pub Parsed : Begun → ℕ → Result (Begun × Option Event) EventFault 
 Parsed begun byte (Ok x) = CameTo (begun_bytes begun ++ byte ∷ []) x.0 x.1
 Parsed begun byte (Err e) = (begun ≡ Nothing) × (byte ≢ 0x41) × (byte ≢ 0x53)
 
--- three bytes; only the first of them can be none of an event
+-- reading three bytes: the event that has them, or, where the first begins none, a refusal
 abbrev pub EventRead : List ℕ → Result Event EventFault → Type 0
 EventRead bs (Ok e) = BytesOf e bs
 EventRead bs (Err e) = (byte_at bs 0 ≢ 0x41) × (byte_at bs 0 ≢ 0x53)

@@ -31,14 +31,14 @@ impl Event {
     pub(crate) fn read(bytes: [u8; 3]) -> Result<Event, EventFault>
         ensures { EventRead bytes result }
     {
-        let [first, a, b] = bytes;
+        let [first, second, third] = bytes;
         match first {
             ARRIVAL => Ok(Event::Arrival {
-                flow: a,
-                packets: b,
+                flow: second,
+                packets: third,
             }),
             PHASE => Ok(Event::Phase {
-                clean: u16::from_bytes([a, b]),
+                clean: u16::from_bytes([second, third]),
             }),
             _ => Err(EventFault::Unknown),
         }

@@ -13,7 +13,7 @@ use table_reference::TableReference;
 /// The bytes of a record.
 const RECORD_BYTES: usize = 12;
 
-/// The bytes of records that are still to be written: of so many records at most.
+/// The bytes of records that are still to be written, of 64 records at most.
 pub(crate) type Records = ArrayVec<u8, 768>;
 
 /// Adds the bytes of a record, for which there is room.
@@ -51,13 +51,13 @@ impl Events {
     }
 
     /// Has every flow flag, and decides the slot.
-    // The set is for the slot that is decided.
     #[inline(always)]
     fn decide(&mut self, clean: u16) -> Result<Record, OpeningFault>
         ensures { PhaseTaken self.old clean self.new result }
     {
         let mut reports = self.cell.open_phase()?;
         reports.flag_rest(clean);
+        // The set was opened for this slot, so it is not refused.
         Ok(self.cell.decide(reports).unwrap())
     }
 
@@ -76,7 +76,7 @@ impl Events {
     }
 
     /// Takes a byte: the record of a slot, if the byte makes a control phase whole.
-    // Apart from the events that come whole, which are nearly all.
+    // Never inlined, so that `take` has one caller on the way of events that come whole, which are nearly all.
     #[inline(never)]
     pub(crate) fn push(&mut self, byte: u8) -> Result<Option<Record>, RunFault>
         ensures { Gives (λ rest. events_to_come self.old (byte ∷ rest)) (events_to_come self.new) result }
@@ -99,9 +99,9 @@ impl Events {
         self.take(event)
     }
 
-    /// Takes whole events from the front of the bytes, where the last one is whole, while there is room for one more record
-    /// and up to one that is refused: the bytes of their records are added, and those behind are told.
-    // Apart from its callers, which have more to hold than is good for what is done so often.
+    /// Has whole events happen from the front of the bytes, where the last one is whole, until one is refused or there is
+    /// no room for one more record. Adds their records' bytes; tells the refusal, if there is one, and the bytes left.
+    // Never inlined: its callers hold more, and the loop would be slower among their locals.
     #[inline(never)]
     pub(crate) fn take_front<'a>(
         &mut self,

@@ -35,8 +35,8 @@ fn write_answer<W: Write>(
 }
 
 impl Run {
-    /// Takes whole events from the front of the bytes, as many as are taken at once, and writes what they give: the bytes
-    /// behind.
+    /// Takes whole events from the front of the bytes, as many as are taken at once, writes what they give, and tells
+    /// the bytes that are left.
     fn feed_events<'a, W: Write>(&mut self, bytes: &'a [u8], output: &mut W) -> io::Result<&'a [u8]>
         ensures fed { IfOk result (λ behind. FedUpTo self.old bytes.now self.new behind.now (W.contents output.old) (W.contents output.new)) }
         ensures no_more { IfOk result (λ behind. length behind.now ≤ length bytes.now) }

@@ -9,9 +9,9 @@ use record::Record;
 use std::mem;
 
 impl Run {
-    /// Takes a byte that is none of an event: of the table, or after the run has stopped.
-    // Apart from `advance`, and never inlined there: a function pays at entry for the size of its locals, and a stage is
-    // large, while nearly all bytes are those of events.
+    /// Takes a byte as `advance` does, for what is seldom: a byte of the table, or after the run has stopped.
+    // Never inlined into `advance`: a function pays at entry for the size of its locals, and a stage is large, while
+    // nearly all bytes are those of events, which `advance` takes itself.
     #[cold]
     #[inline(never)]
     fn advance_outside_events(&mut self, byte: u8) -> Result<Option<Record>, RunFault>

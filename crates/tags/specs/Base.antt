@@ -7,8 +7,8 @@ use Rattle.tag_rule.specs.Rule.{Clock, lowest, time_after}
 abbrev pub latest : ℕ
 latest = 1000000000
 
--- Whether virtual time v stays where it is while a flow's stamp s becomes y, whatever the other flows' stamps are: if the flow
--- was due, another one is at v if this one was past it; if it was not, it is itself at v then.
+-- A test by which virtual time v surely stays while a flow's stamp s becomes y, whatever the other flows' stamps are: if
+-- the flow was due, another one is at v if this one was past it; if it was not, it is itself at v then.
 abbrev pub stays : ℕ → Stamp → Stamp → Bool
 stays v s y = cond s.due (nat_lt v s.tag) (y.due && nat_eq y.tag v)
 

@@ -87,7 +87,7 @@ fn flags_of_the_rest(rt: HostRuntime) -> Result<(), Fail> {
 
 // A cell lies in one piece, with no part of it elsewhere: so these are all of its bytes.
 #[test]
-fn a_cell_is_small(rt: HostRuntime) -> Result<(), Fail> {
+fn the_size_of_a_cell(rt: HostRuntime) -> Result<(), Fail> {
     assert_eq!(rt; size_of::<Cell<RoundRobin>>(), 512);
     assert_eq!(rt; size_of::<Cell<Tags>>(), 660);
     assert_eq!(rt; size_of::<Cell<TableReference>>(), 664);
