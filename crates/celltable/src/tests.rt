@@ -31,8 +31,8 @@ const FAULTS: [(LineFault, &str); 7] = [
         "refused: number 5, byte 18, line: the weight of flow 3 is not 1 to 16",
     ),
     (
-        LineFault::DelayWeight(0),
-        "refused: number 5, byte 7, line: the delay weight of flow 0 is not 1 to 16 (tags) or not 0 (round robin)",
+        LineFault::DelayWeight(2),
+        "refused: number 5, byte 15, line: the delay weight of flow 2 is not 1 to 16 (tags) or not 0 (round robin)",
     ),
 ];
 
