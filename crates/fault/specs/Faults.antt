@@ -1,5 +1,5 @@
 -- What each case of a fault says: its number, and of a table's fault the byte that it names and its layer.
-use Rattle.std.specs.Prelude.{ℕ, ◌+◌, ◌*◌}
+use Rattle.std.specs.Prelude.{ℕ, ◌+◌, ◌-◌, ◌*◌, ◌/◌, ◌%◌, Some, None, Option, ◌==◌, if◌then◌else◌}
 use Rattle.fault.specs.declared.Layer.{Layer}
 use Rattle.fault.specs.declared.Layer.TheVariants.{Frame, Header, Line}
 use Rattle.fault.specs.declared.Refusal.{Refusal}
@@ -84,3 +84,29 @@ run_number (Creation e) = (creation_told e).number
 run_number (Arrival e) = arrival_number e
 run_number (Opening e) = opening_number e
 run_number (Event e) = event_number e
+
+-- the refusal of a table, where that is what refuses a run
+abbrev pub refused_table : RunFault → Option Refusal
+refused_table (Creation e) = Some (creation_told e)
+refused_table (Arrival e) = None
+refused_table (Opening e) = None
+refused_table (Event e) = None
+
+-- ## The other way round: the fault of a refusal
+
+-- the fault of an arrival with this number
+abbrev pub arrival_fault : ℕ → ArrivalFault
+arrival_fault n = if n == 6 then NoFlowToArriveFor else TooMany
+
+-- the fault of a table with this number, at this byte: the line of flow f begins at byte 6 + 4 * f, with its weight
+abbrev pub line_fault : Refusal → LineFault
+line_fault r =
+    if r.number == 1
+    then InHeader (InFrame Length)
+    else (if r.number == 2
+    then InHeader (InFrame Version)
+    else (if r.number == 3
+    then InHeader (if r.byte == 3 then Kind else Lookahead)
+    else (if r.number == 4
+    then InHeader FlowCount
+    else (if r.byte % 4 == 2 then Weight (r.byte / 4 - 1) else DelayWeight (r.byte / 4 - 1)))))

@@ -1,4 +1,4 @@
-//! Every fault, and what it tells: its number, and of a table's fault the byte and the layer.
+//! Every fault, with its number, and for a fault of a table the byte and the layer.
 
 #![tactic(auto)]
 
@@ -14,6 +14,7 @@ ghost use Rattle.fault.specs.Faults.{
   line_told,
   opening_number,
   record_number,
+  refused_table,
   run_number,
   write_number,
 };
@@ -46,8 +47,8 @@ impl fmt::Display for Layer {
     }
 }
 
-/// What a refused table is told by, outside the code, where the faults below stand for it: the number of the refusal,
-/// the first wrong byte (from 0, the length among them) and the layer.
+/// The external form of a table's fault: the number of the refusal, the first wrong byte (from 0, the length among them)
+/// and the layer.
 #[derive(Clone, Copy, PartialEq, Eq, Debug)]
 pub struct Refusal {
     /// The number of the refusal.
@@ -97,7 +98,7 @@ pub enum HeaderFault {
     FlowCount,
 }
 
-/// What is wrong with a table, in whichever part of it.
+/// What is wrong with a table, in any part of it.
 #[derive(Clone, Copy, PartialEq, Eq, Debug, Error)]
 pub enum LineFault {
     /// A fault of the frame or the header.
@@ -128,10 +129,10 @@ impl From<HeaderFault> for LineFault {
     }
 }
 
-// A method and no `From`: a refusal is told of a fault, and is not the fault in another type.
+// A method rather than `From`: a refusal describes a fault, and is not the fault in another type.
 impl FrameFault {
     /// Number, byte and layer.
-    pub(crate) fn refusal(self) -> Refusal
+    pub fn refusal(self) -> Refusal
         ensures { result ≡ frame_told self }
     {
         let (number, byte) = match self {
@@ -148,7 +149,7 @@ impl FrameFault {
 
 impl HeaderFault {
     /// Number, byte and layer.
-    pub(crate) fn refusal(self) -> Refusal
+    pub fn refusal(self) -> Refusal
         ensures { result ≡ header_told self }
     {
         let (number, byte) = match self {
@@ -229,7 +230,7 @@ pub enum RecordFault {
 }
 
 impl RecordFault {
-    /// The number of the refusal, for whoever is told of it: in the code the enum stands for it.
+    /// The number of the refusal, as docs/REFUSALS.md lists it.
     pub fn number(self) -> u8
         ensures { result ≡ record_number self }
     {
@@ -250,7 +251,7 @@ pub enum WriteFault {
 }
 
 impl WriteFault {
-    /// The number of the refusal, for whoever is told of it: in the code the enum stands for it.
+    /// The number of the refusal, as docs/REFUSALS.md lists it.
     pub fn number(self) -> u8
         ensures { result ≡ write_number self }
     {
@@ -272,7 +273,7 @@ pub enum ArrivalFault {
 }
 
 impl ArrivalFault {
-    /// The number of the refusal, for whoever is told of it: in the code the enum stands for it.
+    /// The number of the refusal, as docs/REFUSALS.md lists it.
     pub fn number(self) -> u8
         ensures { result ≡ arrival_number self }
     {
@@ -286,13 +287,13 @@ impl ArrivalFault {
 /// Why no control phase was opened.
 #[derive(Clone, Copy, PartialEq, Eq, Debug, Error)]
 pub enum OpeningFault {
-    /// As many slots as a cell decides are decided.
+    /// The cell has decided all the slots that it ever decides.
     #[error("the cell has decided 1,000,000,000 slots")]
     AllDecided,
 }
 
 impl OpeningFault {
-    /// The number of the refusal, for whoever is told of it: in the code the enum stands for it.
+    /// The number of the refusal, as docs/REFUSALS.md lists it.
     pub fn number(self) -> u8
         ensures { result ≡ opening_number self }
     {
@@ -314,7 +315,7 @@ pub enum FlagFault {
 }
 
 impl FlagFault {
-    /// The number of the refusal, for whoever is told of it: in the code the enum stands for it.
+    /// The number of the refusal, as docs/REFUSALS.md lists it.
     pub fn number(self) -> u8
         ensures { result ≡ flag_number self }
     {
@@ -334,7 +335,7 @@ pub enum DecisionFault {
 }
 
 impl DecisionFault {
-    /// The number of the refusal, for whoever is told of it: in the code the enum stands for it.
+    /// The number of the refusal, as docs/REFUSALS.md lists it.
     pub fn number(self) -> u8
         ensures { result ≡ decision_number self }
     {
@@ -356,7 +357,7 @@ pub enum EventFault {
 }
 
 impl EventFault {
-    /// The number of the refusal, for whoever is told of it: in the code the enum stands for it.
+    /// The number of the refusal, as docs/REFUSALS.md lists it.
     pub fn number(self) -> u8
         ensures { result ≡ event_number self }
     {
@@ -416,7 +417,7 @@ impl From<EventFault> for RunFault {
 }
 
 impl RunFault {
-    /// The number of the refusal, for whoever is told of it: in the code the enum stands for it.
+    /// The number of the refusal, as docs/REFUSALS.md lists it.
     pub fn number(self) -> u8
         ensures { result ≡ run_number self }
     {
@@ -425,6 +426,15 @@ impl RunFault {
             RunFault::Arrival(fault) => fault.number(),
             RunFault::Opening(fault) => fault.number(),
             RunFault::Event(fault) => fault.number(),
+        }
+    }
+    /// Number, byte and layer of a refused table; none for a refusal of anything else, which has a number alone.
+    pub fn table_refusal(self) -> Option<Refusal>
+        ensures { result ≡ refused_table self }
+    {
+        match self {
+            RunFault::Creation(fault) => Some(fault.refusal()),
+            RunFault::Arrival(_) | RunFault::Opening(_) | RunFault::Event(_) => None,
         }
     }
 }

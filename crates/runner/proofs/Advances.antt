@@ -1,10 +1,9 @@
 -- A byte that a run takes, by the stage that it has come to.
 use Rattle.std.proofs.Common.{◌≡◌, ℕ, List, [], ◌∷◌, ◌++◌, Ok, Err, sym, ap, ◌∙◌, append_assoc}
-use Rattle.fault.specs.Faults.{run_number}
 use Rattle.fault.specs.declared.CreationFault.{CreationFault}
 use Rattle.fault.specs.declared.RunFault.{RunFault}
 use Rattle.fault.specs.declared.RunFault.TheVariants.{Creation}
-use Rattle.runner.specs.Output.{output_of, refusal_bytes}
+use Rattle.runner.specs.Output.{outcome_of, refused_by}
 use Rattle.runner.specs.TableView.{Passed}
 use Rattle.runner.specs.ToCome.{StageBehind, stage_to_come, to_come}
 use Rattle.runner.specs.declared.Run.{Run}
@@ -18,22 +17,22 @@ module _ (r : Run) (byte : ℕ) (e : CreationFault) (f : RunFault) (told : f ≡
       (t : PartialTable)
       → r.stage ≡ Table t
       → StageBehind (t.bytes.items ++ byte ∷ []) (Err e)
-      → (rest : List ℕ) → to_come r (byte ∷ rest) ≡ refusal_bytes (run_number f)
+      → (rest : List ℕ) → to_come r (byte ∷ rest) ≡ refused_by f
   table_refused t is refused rest =
       ap (λ s. stage_to_come s (byte ∷ rest)) is
-      ∙ ap output_of (sym (append_assoc t.bytes.items (byte ∷ []) rest))
+      ∙ ap outcome_of (sym (append_assoc t.bytes.items (byte ∷ []) rest))
       ∙ refused rest
-      ∙ sym (ap (λ x. refusal_bytes (run_number x)) told)
+      ∙ sym (ap refused_by told)
 
   pub long_table_refused :
       (old new : Long)
       → r.stage ≡ LongTable old
       → ((b : ℕ) (rest : List ℕ) → Passed old new (b ∷ rest) rest (Err e))
-      → (rest : List ℕ) → to_come r (byte ∷ rest) ≡ refusal_bytes (run_number f)
+      → (rest : List ℕ) → to_come r (byte ∷ rest) ≡ refused_by f
   long_table_refused old new is refused rest =
       ap (λ s. stage_to_come s (byte ∷ rest)) is
       ∙ refused byte rest
-      ∙ sym (ap (λ x. refusal_bytes (run_number x)) told)
+      ∙ sym (ap refused_by told)
 
 -- the table has not come whole, or has
 pub table_goes_on :
@@ -43,5 +42,5 @@ pub table_goes_on :
     → (rest : List ℕ) → to_come r (byte ∷ rest) ≡ stage_to_come s rest
 table_goes_on r byte t s is behind rest =
     ap (λ x. stage_to_come x (byte ∷ rest)) is
-    ∙ ap output_of (sym (append_assoc t.bytes.items (byte ∷ []) rest))
+    ∙ ap outcome_of (sym (append_assoc t.bytes.items (byte ∷ []) rest))
     ∙ behind rest

@@ -6,3 +6,4 @@ pub mod Advances
 pub mod Feeds
 pub mod Progress
 pub mod Stopped
+pub mod SlotsLeft

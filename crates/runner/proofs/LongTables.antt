@@ -14,7 +14,8 @@ use Rattle.octets.specs.Ranges.{one_to_sixteen}
 use Rattle.table.specs.Lines.{kind_numbered, lookahead_fits}
 use Rattle.table.specs.Refusals.{fields_refusal, frame_refusal, lines_refusal, table_refusal}
 use Rattle.table.specs.declared.line.Kind.{Kind}
-use Rattle.runner.specs.Output.{events_part, output_by, output_of, refusal_bytes, table_part}
+use Rattle.fault.specs.declared.RunFault.TheVariants.{Creation}
+use Rattle.runner.specs.Output.{cut_table, events_part, outcome_by, outcome_of, refused_by, table_fault, table_part}
 use Rattle.runner.proofs.Tables.{cut_table_refused}
 
 -- what is wrong with the fields of a header whose flow count fits no length
@@ -67,13 +68,13 @@ refused_alike h l v k p c xs long n =
     ∙ sym (ap (λ o. option_or (option_or (frame_refusal d) o) (lines_refusal d kind)) of_d)
 
 -- an input that begins with these six bytes
-long_output_of :
+long_outcome_of :
     (h l v k p c : ℕ) (rest : List ℕ) (r : Refusal)
     → 68 < be_number (h ∷ l ∷ [])
     → table_refusal (0 ∷ 4 ∷ v ∷ k ∷ p ∷ 0 ∷ []) ≡ Some r
-    → output_of (h ∷ l ∷ v ∷ k ∷ p ∷ c ∷ rest)
-    ≡ cond (nat_lt (length rest) (be_number (h ∷ l ∷ []) - 4)) (refusal_bytes 1) (refusal_bytes r.number)
-long_output_of h l v k p c rest r long e = split (nat_lt (length rest) (told - 4)) refl
+    → outcome_of (h ∷ l ∷ v ∷ k ∷ p ∷ c ∷ rest)
+    ≡ cond (nat_lt (length rest) (be_number (h ∷ l ∷ []) - 4)) (refused_by cut_table) (refused_by (Creation (table_fault r)))
+long_outcome_of h l v k p c rest r long e = split (nat_lt (length rest) (told - 4)) refl
   where
     told : ℕ
     told = be_number (h ∷ l ∷ [])
@@ -82,28 +83,28 @@ long_output_of h l v k p c rest r long e = split (nat_lt (length rest) (told - 4
     input = h ∷ l ∷ v ∷ k ∷ p ∷ c ∷ rest
 
     -- all of its table has come
-    come : (n : ℕ) → n + 4 ≡ told → n ≤ length rest → output_of input ≡ refusal_bytes r.number
+    come : (n : ℕ) → n + 4 ≡ told → n ≤ length rest → outcome_of input ≡ refused_by (Creation (table_fault r))
     come n m le =
         let all : told_length input + 2 ≡ suc (suc (suc (suc (suc (suc n))))) = omega (arith, m) in
         let part : table_part input ≡ h ∷ l ∷ v ∷ k ∷ p ∷ c ∷ take n rest = ap (λ i. take i input) all in
         let size : 6 + length (take n rest) ≡ told + 2 = omega (arith, length-take-le n rest le, m) in
         let refusal = refused_alike h l v k p c (take n rest) long size ∙ e in
-        ap (λ b. output_by (table_refusal b) b (events_part input)) part
-        ∙ ap (λ o. output_by o (h ∷ l ∷ v ∷ k ∷ p ∷ c ∷ take n rest) (events_part input)) refusal
+        ap (λ b. outcome_by (table_refusal b) b (events_part input)) part
+        ∙ ap (λ o. outcome_by o (h ∷ l ∷ v ∷ k ∷ p ∷ c ∷ take n rest) (events_part input)) refusal
 
     split :
         (w : Bool) → nat_lt (length rest) (told - 4) ≡ w
-        → output_of input ≡ cond w (refusal_bytes 1) (refusal_bytes r.number)
+        → outcome_of input ≡ cond w (refused_by cut_table) (refused_by (Creation (table_fault r)))
     split true s = cut_table_refused input (let lt = ltb-true (length rest) (told - 4) s in omega (arith, lt))
     split false s = come (told - 4) (omega (arith, long)) (ltb-false (length rest) (told - 4) s)
 
-pub long_output :
+pub long_outcome :
     (b rest : List ℕ) (r : Refusal)
     → length b ≡ 6 → 68 < told_length b
     → table_refusal (0 ∷ 4 ∷ byte_at b 2 ∷ byte_at b 3 ∷ byte_at b 4 ∷ 0 ∷ []) ≡ Some r
-    → output_of (b ++ rest)
-    ≡ cond (nat_lt (length rest) (told_length b - 4)) (refusal_bytes 1) (refusal_bytes r.number)
-long_output b rest r n long e =
+    → outcome_of (b ++ rest)
+    ≡ cond (nat_lt (length rest) (told_length b - 4)) (refused_by cut_table) (refused_by (Creation (table_fault r)))
+long_outcome b rest r n long e =
     let all : b ≡ listed 0 6 b = listed_front 0 6 b (omega (arith, n)) ∙ ap (λ xs. listed 0 6 b ++ xs) (drop_of_length-le b {i = 6} (omega (arith, n))) in
-    ap (λ xs. output_of (xs ++ rest)) all
-    ∙ long_output_of (byte_at b 0) (byte_at b 1) (byte_at b 2) (byte_at b 3) (byte_at b 4) (byte_at b 5) rest r long e
+    ap (λ xs. outcome_of (xs ++ rest)) all
+    ∙ long_outcome_of (byte_at b 0) (byte_at b 1) (byte_at b 2) (byte_at b 3) (byte_at b 4) (byte_at b 5) rest r long e

@@ -2,9 +2,9 @@
 use Rattle.std.proofs.Common.{◌≡◌, ℕ, List, [], ◌++◌, ◌<◌, length, Some, None, Option, Ok, Err, Result, IfSome, OnOk, take, sym, ap, ◌∙◌, append_assoc, subst}
 use Rattle.std.proofs.lemmas.List.{append-nil}
 use Rattle.std.specs.Io.KnownBytes.{Appends, Consumes, IsAtEnd, Keeps, ReadConsumes}
-use Rattle.runner.specs.Feeding.{Fed}
-use Rattle.runner.specs.Output.{output_of}
-use Rattle.runner.specs.ToCome.{to_come}
+use Rattle.runner.specs.Feeding.{Fed, output_to_come}
+use Rattle.runner.specs.Output.{outcome_of, output_of}
+use Rattle.runner.specs.ToCome.{IsDone, to_come}
 use Rattle.runner.specs.declared.Run.{Run}
 use Rattle.runner.proofs.Feeds.{appends_both, appends_nothing}
 
@@ -14,7 +14,7 @@ abbrev pub Going : Option (List ℕ) → Option (List ℕ) → Run → Option (L
 Going None left r old new = Unit {0}
 Going (Some all) None r old new = ⊥
 Going (Some all) (Some left) r old new =
-    (written : List ℕ) × Appends old new written × (output_of all ≡ written ++ to_come r left)
+    (written : List ℕ) × Appends old new written × (output_of all ≡ written ++ output_to_come r left)
 
 -- all is written
 abbrev pub AllWritten : Option (List ℕ) → Option (List ℕ) → Option (List ℕ) → Type 0
@@ -27,9 +27,9 @@ kept_appends (Some xs) (Some ys) None w h k = absurd k
 kept_appends (Some xs) (Some ys) (Some zs) w h k = k ∙ h
 
 pub at_the_start :
-    (all out : Option (List ℕ)) (r : Run) → ((input : List ℕ) → to_come r input ≡ output_of input) → Going all all r out out
+    (all out : Option (List ℕ)) (r : Run) → ((input : List ℕ) → to_come r input ≡ outcome_of input) → Going all all r out out
 at_the_start None out r h = tt
-at_the_start (Some all) out r h = ([], appends_nothing out, sym (h all))
+at_the_start (Some all) out r h = ([], appends_nothing out, sym (ap (λ x. x.written) (h all)))
 
 -- an interrupted read
 pub after_no_read :
@@ -38,7 +38,7 @@ after_no_read None left rest old new r g k = tt
 after_no_read (Some all) None rest old new r g k = absurd g
 after_no_read (Some all) (Some xs) None old new r g k = absurd k
 after_no_read (Some all) (Some xs) (Some ys) old new r g k =
-    (g.0, g.1, g.2 ∙ ap (λ left. g.0 ++ to_come r left) (sym k))
+    (g.0, g.1, g.2 ∙ ap (λ left. g.0 ++ output_to_come r left) (sym k))
 
 -- a chunk was read and fed
 pub after_a_chunk :
@@ -55,19 +55,19 @@ after_a_chunk (Some all) (Some xs) (Some ys) old mid fed new before after bytes 
   g.0 ++ f.written,
   kept_appends old fed new (g.0 ++ f.written) (appends_both old mid fed g.0 f.written g.1 f.grown) k,
   g.2
-      ∙ ap (λ left. g.0 ++ to_come before left) c
+      ∙ ap (λ left. g.0 ++ output_to_come before left) c
       ∙ ap (λ s. g.0 ++ s) (f.whatever_follows ys)
-      ∙ sym (append_assoc g.0 f.written (to_come after ys)),
+      ∙ sym (append_assoc g.0 f.written (output_to_come after ys)),
 )
 
 -- the run has stopped
 pub once_over :
     (all left old new : Option (List ℕ)) (r : Run)
-    → Going all left r old new → ((rest : List ℕ) → to_come r rest ≡ []) → AllWritten all old new
+    → Going all left r old new → IsDone r → AllWritten all old new
 once_over None left old new r g over = tt
 once_over (Some all) None old new r g over = absurd g
 once_over (Some all) (Some xs) old new r g over =
-    let e : output_of all ≡ g.0 = g.2 ∙ ap (λ s. g.0 ++ s) (over xs) ∙ append-nil g.0 in
+    let e : output_of all ≡ g.0 = g.2 ∙ ap (λ x. g.0 ++ x.written) (over xs) ∙ append-nil g.0 in
     subst (Appends old new) (sym e) g.1
 
 -- the end of the input
@@ -76,15 +76,15 @@ pub at_the_end :
     → Going all left r old mid
     → Consumes left rest []
     → IsAtEnd rest
-    → Appends mid last (to_come r [])
+    → Appends mid last (output_to_come r [])
     → Keeps last new
     → AllWritten all old new
 at_the_end None left rest old mid last new r g c e a k = tt
 at_the_end (Some all) None rest old mid last new r g c e a k = absurd g
 at_the_end (Some all) (Some xs) None old mid last new r g c e a k = absurd c
 at_the_end (Some all) (Some xs) (Some ys) old mid last new r g c e a k =
-    let w : output_of all ≡ g.0 ++ to_come r [] = g.2 ∙ ap (λ left. g.0 ++ to_come r left) (c ∙ e) in
-    subst (Appends old new) (sym w) (kept_appends old last new (g.0 ++ to_come r []) (appends_both old mid last g.0 (to_come r []) g.1 a) k)
+    let w : output_of all ≡ g.0 ++ output_to_come r [] = g.2 ∙ ap (λ left. g.0 ++ output_to_come r left) (c ∙ e) in
+    subst (Appends old new) (sym w) (kept_appends old last new (g.0 ++ output_to_come r []) (appends_both old mid last g.0 (output_to_come r []) g.1 a) k)
 
 -- a read of no bytes into a buffer that has room
 pub end_read :

@@ -1,16 +1,38 @@
--- Feeding bytes to a run.
-use Rattle.std.specs.Prelude.{◌≡◌, ℕ, List, [], ◌++◌, Option}
+-- Feeding bytes to a run, and the bytes that it writes.
+use Rattle.std.specs.Prelude.{◌≡◌, ℕ, List, [], ◌++◌, Ok, Err, Option, Result}
 use Rattle.std.specs.Io.KnownBytes.{Appends}
-use Rattle.runner.specs.ToCome.{to_come}
+use Rattle.fault.specs.Faults.{run_number}
+use Rattle.fault.specs.declared.RunFault.{RunFault}
+use Rattle.runner.specs.Output.{in_front_of, refusal_bytes, refused_by}
+use Rattle.runner.specs.ToCome.{IsDone, to_come}
 use Rattle.runner.specs.declared.Run.{Run}
 
+-- the bytes that are still to be written, if this is the rest of the input
+abbrev pub output_to_come : Run → List ℕ → List ℕ
+output_to_come r rest = (to_come r rest).written
+
+-- the bytes of a refusal, if there is one
+abbrev pub stop_bytes : Result Unit RunFault → List ℕ
+stop_bytes (Ok _) = []
+stop_bytes (Err e) = refusal_bytes (run_number e)
+
+-- Bytes were taken off the front of the bytes, which gave the records that are written, and others are left; or the run
+-- was refused, after these records.
+abbrev pub RunTaken : Run → List ℕ → List ℕ → Run → List ℕ → Result Unit RunFault → Type 0
+RunTaken before bytes written after behind (Ok _) =
+    (rest : List ℕ) → to_come before (bytes ++ rest) ≡ in_front_of written (to_come after (behind ++ rest))
+RunTaken before bytes written after behind (Err e) =
+    ((rest : List ℕ) → to_come before (bytes ++ rest) ≡ in_front_of written (refused_by e)) × IsDone after
+
 -- A run before was fed bytes but for those that are left, which leaves it as after, and an output that held some bytes
--- grew by what was written: whatever follows, what was still to come before is what was written, and then what is still
--- to come.
+-- grew by what was written: whatever follows, the bytes that were still to be written are those, and then those that
+-- are still to be written.
 pub record FedUpTo (before : Run) (bytes : List ℕ) (after : Run) (left : List ℕ) (old new : Option (List ℕ)) : Type 0 where
   pub written : List ℕ
   pub grown : Appends old new written
-  pub whatever_follows : (rest : List ℕ) → to_come before (bytes ++ rest) ≡ written ++ to_come after (left ++ rest)
+  pub whatever_follows :
+      (rest : List ℕ)
+      → output_to_come before (bytes ++ rest) ≡ written ++ output_to_come after (left ++ rest)
 
 -- it was fed all of them
 abbrev pub Fed : Run → List ℕ → Run → Option (List ℕ) → Option (List ℕ) → Type 0

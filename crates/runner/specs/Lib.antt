@@ -5,3 +5,4 @@ pub mod TableView
 pub mod EventsView
 pub mod ToCome
 pub mod Feeding
+pub mod Slots

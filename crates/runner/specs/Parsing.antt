@@ -1,6 +1,7 @@
 -- Events, byte by byte.
 use Rattle.std.specs.Prelude.{◌≡◌, ◌≢◌, ℕ, Bool, true, false, List, [], ◌∷◌, ◌++◌, Some, None, Ok, Err, Option, Result}
 use Rattle.fault.specs.declared.EventFault.{EventFault}
+use Rattle.fault.specs.declared.EventFault.TheVariants.{Unknown}
 use Rattle.octets.specs.BigEndian.{be_number, byte_at}
 use Rattle.runner.specs.declared.begun.Begun.{Begun}
 use Rattle.runner.specs.declared.begun.Begun.TheVariants.{Nothing, Arrival as ArrivalBegun, ArrivalFor, Phase as PhaseBegun, PhaseWith}
@@ -34,12 +35,12 @@ abbrev pub CameTo : List ℕ → Begun → Option Event → Type 0
 CameTo bs begun None = bs ≡ begun_bytes begun
 CameTo bs begun (Some e) = BytesOf e bs × (begun ≡ Nothing)
 
--- a further byte; only the first byte of an event can be none of an event
+-- a further byte; only the first byte of an event can be none of an event, and the event is unknown then
 abbrev pub Parsed : Begun → ℕ → Result (Begun × Option Event) EventFault → Type 0
 Parsed begun byte (Ok x) = CameTo (begun_bytes begun ++ byte ∷ []) x.0 x.1
-Parsed begun byte (Err e) = (begun ≡ Nothing) × (byte ≢ 0x41) × (byte ≢ 0x53)
+Parsed begun byte (Err e) = (begun ≡ Nothing) × (byte ≢ 0x41) × (byte ≢ 0x53) × (e ≡ Unknown)
 
--- reading three bytes: the event that has them, or, where the first begins none, a refusal
+-- reading three bytes: the event that has them, or, where the first begins none, that it is unknown
 abbrev pub EventRead : List ℕ → Result Event EventFault → Type 0
 EventRead bs (Ok e) = BytesOf e bs
-EventRead bs (Err e) = (byte_at bs 0 ≢ 0x41) × (byte_at bs 0 ≢ 0x53)
+EventRead bs (Err e) = (byte_at bs 0 ≢ 0x41) × (byte_at bs 0 ≢ 0x53) × (e ≡ Unknown)

@@ -1,36 +1,44 @@
--- What is still to come of a run: what it writes, if this is the rest of its input.
-use Rattle.std.specs.Prelude.{◌≡◌, ℕ, List, [], ◌++◌, Ok, Err, Result, Some, None, Option}
-use Rattle.fault.specs.Faults.{creation_told, run_number}
+-- What is still to come of a run, if this is the rest of its input.
+use Rattle.std.specs.Prelude.{◌≡◌, ℕ, ◌⊎◌, List, ◌++◌, Ok, Err, Result, Option}
 use Rattle.fault.specs.declared.CreationFault.{CreationFault}
 use Rattle.fault.specs.declared.RunFault.{RunFault}
+use Rattle.fault.specs.declared.RunFault.TheVariants.{Creation}
 use Rattle.record.specs.declared.Record.{Record}
 use Rattle.runner.specs.EventsView.{bytes_of, events_to_come}
-use Rattle.runner.specs.Output.{output_of, refusal_bytes}
+use Rattle.runner.specs.Output.{RunOutcome, cut_event, cut_table, in_front_of, nothing_more, outcome_of, refused_by}
 use Rattle.runner.specs.TableView.{long_to_come}
 use Rattle.runner.specs.declared.Run.{Run}
 use Rattle.runner.specs.declared.stage.Stage.{Stage}
 use Rattle.runner.specs.declared.stage.Stage.TheVariants.{Table, LongTable, Events, Over}
 
-abbrev pub stage_to_come : Stage → List ℕ → List ℕ
-stage_to_come (Table t) rest = output_of (t.bytes.items ++ rest)
+abbrev pub stage_to_come : Stage → List ℕ → RunOutcome
+stage_to_come (Table t) rest = outcome_of (t.bytes.items ++ rest)
 stage_to_come (LongTable t) rest = long_to_come t rest
 stage_to_come (Events e) rest = events_to_come e rest
-stage_to_come Over rest = []
+stage_to_come Over rest = nothing_more
 
-abbrev pub to_come : Run → List ℕ → List ℕ
+abbrev pub to_come : Run → List ℕ → RunOutcome
 to_come r rest = stage_to_come r.stage rest
+
+-- nothing can come of the run any more
+abbrev pub IsDone : Run → Type 0
+IsDone r = (rest : List ℕ) → to_come r rest ≡ nothing_more
 
 -- what a run comes to after the bytes b of its input, or that its table is refused
 abbrev pub StageBehind : List ℕ → Result Stage CreationFault → Type 0
-StageBehind b (Ok s) = (rest : List ℕ) → output_of (b ++ rest) ≡ stage_to_come s rest
-StageBehind b (Err e) = (rest : List ℕ) → output_of (b ++ rest) ≡ refusal_bytes (creation_told e).number
+StageBehind b (Ok s) = (rest : List ℕ) → outcome_of (b ++ rest) ≡ stage_to_come s rest
+StageBehind b (Err e) = (rest : List ℕ) → outcome_of (b ++ rest) ≡ refused_by (Creation e)
 
--- the bytes of an answer to a byte: of a record, if there is one, or of a refusal
-abbrev pub answer_bytes : Result (Option Record) RunFault → List ℕ
-answer_bytes (Ok r) = bytes_of r
-answer_bytes (Err e) = refusal_bytes (run_number e)
+-- what an answer to a byte gives, in front of what is to come after it; a refusal is the last that comes
+abbrev pub answer_outcome : Result (Option Record) RunFault → RunOutcome → RunOutcome
+answer_outcome (Ok r) after = in_front_of (bytes_of r) after
+answer_outcome (Err e) after = refused_by e
 
--- whether the end of the input cuts a run short, and what is written then
-abbrev pub Cut : Run → Option RunFault → Type 0
-Cut r None = to_come r [] ≡ []
-Cut r (Some e) = to_come r [] ≡ refusal_bytes (run_number e)
+-- what the end of the input gives
+abbrev pub end_outcome : Result Unit RunFault → RunOutcome
+end_outcome (Ok _) = nothing_more
+end_outcome (Err e) = refused_by e
+
+-- the input ends within a table or an event
+abbrev pub IsCut : RunFault → Type 0
+IsCut e = (e ≡ cut_table) ⊎ (e ≡ cut_event)

@@ -9,6 +9,9 @@ pub(crate) const ARRIVAL: u8 = 0x41;
 /// The first byte of a control phase.
 pub(crate) const PHASE: u8 = 0x53;
 
+/// The bytes of an event.
+pub(crate) const EVENT_BYTES: usize = 3;
+
 /// An event of a run's input, whole.
 #[derive(Clone, Copy)]
 pub(crate) enum Event {
@@ -28,7 +31,7 @@ pub(crate) enum Event {
 
 impl Event {
     /// The event that has these bytes.
-    pub(crate) fn read(bytes: [u8; 3]) -> Result<Event, EventFault>
+    pub(crate) fn read(bytes: [u8; EVENT_BYTES]) -> Result<Event, EventFault>
         ensures { EventRead bytes result }
     {
         let [first, second, third] = bytes;

@@ -17,7 +17,7 @@ const RECORD_BYTES: usize = 12;
 pub(crate) type Records = ArrayVec<u8, 768>;
 
 /// Adds the bytes of a record, for which there is room.
-fn add_record(records: &mut Records, latest: &Record)
+pub(crate) fn add_record(records: &mut Records, latest: &Record)
     requires { length records.old.items + 12 ≤ 768 }
     ensures { records.new.items ≡ records.old.items ++ record_bytes latest.now }
 {
@@ -33,7 +33,7 @@ pub(crate) struct Events {
 
 impl Events {
     ghost use Rattle.runner.specs.EventsView.{Begins, FrontTaken, Gives, PhaseTaken, Taken, events_to_come};
-    ghost use Rattle.std.specs.Prelude.{◌≡◌, ◌≤◌, true, [], ◌∷◌, ◌++◌, IfOk, length};
+    ghost use Rattle.std.specs.Prelude.{◌≡◌, ◌<◌, ◌≤◌, true, [], ◌∷◌, ◌++◌, IfOk, length};
     ghost use Rattle.runner.specs.Parsing.{none_begun};
 
     /// Before the first event: the cell of a table, over the reference of the table's kind.
@@ -99,8 +99,8 @@ impl Events {
         self.take(event)
     }
 
-    /// Has whole events happen from the front of the bytes, where the last one is whole, until one is refused or there is
-    /// no room for one more record. Adds their records' bytes; tells the refusal, if there is one, and the bytes left.
+    /// Applies the whole events at the front of the bytes, where the last one is whole, until one is refused or there is
+    /// no room for one more record. Adds their records' bytes; returns the refusal, if there is one, and the bytes left.
     // Never inlined: its callers hold more, and the loop would be slower among their locals.
     #[inline(never)]
     pub(crate) fn take_front<'a>(
@@ -112,6 +112,7 @@ impl Events {
         requires empty { records.old.items ≡ [] }
         ensures taken { FrontTaken self.old bytes.now records.new.items self.new result.1.now result.0 }
         ensures no_more { length result.1.now ≤ length bytes.now }
+        ensures moves_on { 3 ≤ length bytes.now → length result.1.now < length bytes.now }
     {
         let mut rest = bytes;
         while records.remaining_capacity() >= RECORD_BYTES

@@ -18,14 +18,14 @@ pub(crate) struct LongTable {
 impl LongTable {
     ghost use Rattle.std.specs.Prelude.{◌≡◌, ℕ, ◌<◌, List, ◌∷◌, ◌++◌};
     ghost use Rattle.octets.specs.BigEndian.{told_length};
-    ghost use Rattle.runner.specs.Output.{output_of};
+    ghost use Rattle.runner.specs.Output.{outcome_of};
     ghost use Rattle.runner.specs.TableView.{long_to_come, Passed};
 
     /// The table that begins with these bytes.
     // What is wrong with it is wrong with a table of no flows, too, that says the same of version, kind and lookahead.
     pub(crate) fn after(header: [u8; 6]) -> LongTable
         requires { 68 < told_length header }
-        ensures { (rest : List ℕ) → output_of (header ++ rest) ≡ long_to_come result rest }
+        ensures { (rest : List ℕ) → outcome_of (header ++ rest) ≡ long_to_come result rest }
     {
         let [high, low, version, kind, lookahead, _] = header;
         // The length does not count its own two bytes, and six have come.
@@ -35,7 +35,7 @@ impl LongTable {
         }
     }
 
-    /// Passes over a byte, or refuses the table, if that was its last one.
+    /// Ignores a byte, or refuses the table, if that was its last one.
     pub(crate) fn pass(&mut self) -> Result<(), CreationFault>
         ensures { (byte : ℕ) (rest : List ℕ) → Passed self.old self.new (byte ∷ rest) rest result }
     {

@@ -1,6 +1,6 @@
-ghost use Rattle.std.specs.Prelude.{◌≡◌, ℕ, List, [], ◌∷◌, ◌++◌, IfErr};
+ghost use Rattle.std.specs.Prelude.{◌≡◌, ℕ, List, ◌∷◌, IfErr};
 ghost use Rattle.runner.specs.EventsView.{Gives};
-ghost use Rattle.runner.specs.ToCome.{answer_bytes, to_come};
+ghost use Rattle.runner.specs.ToCome.{IsDone, answer_outcome, to_come};
 
 use crate::Run;
 use crate::stage::Stage;
@@ -42,10 +42,11 @@ impl Run {
     }
 
     /// Takes the next byte of the input: the record of a slot, if that byte makes a control phase whole, or why the run
-    /// stops at it. A run that has stopped passes the byte over.
+    /// stops at it. A run that has stopped ignores the byte.
     pub fn push(&mut self, byte: u8) -> Result<Option<Record>, RunFault>
-        ensures gives { (rest : List ℕ) → to_come self.old (byte ∷ rest) ≡ answer_bytes result ++ to_come self.new rest }
-        ensures stops { IfErr result (λ _. (rest : List ℕ) → to_come self.new rest ≡ []) }
+        ensures gives { (rest : List ℕ) →
+            to_come self.old (byte ∷ rest) ≡ answer_outcome result (to_come self.new rest) }
+        ensures stops { IfErr result (λ _. IsDone self.new) }
     {
         let answer = self.advance(byte);
         if answer.is_err() {

@@ -1,35 +1,20 @@
-use Rattle.std.proofs.Common.{◌-◌, length, take, drop, get_or, subst}
-use Rattle.runner.specs.Feeding.{FedUpTo}
-use Rattle.runner.specs.ToCome.{answer_bytes}
-use Rattle.runner.proofs.Feeds.{byte_fed, fed_on, front_one, none_left}
+use Rattle.std.proofs.Common.{subst}
+use Rattle.std.specs.Io.KnownBytes.{Appends}
+use Rattle.runner.proofs.Feeds.{fed_on, taken_fed}
 use Rattle.runner.proofs.Run.feed.Goals as goal
 
-pub loop-byte-preserved : goal.loop-byte-preserved
-loop-byte-preserved g c =
+pub loop-rest-preserved : goal.loop-rest-preserved
+loop-rest-preserved g c =
     let contents = g.W.Write.contents in
-    let a = c.args.self.now in
     let input = c.args.input.now in
-    let rest = c.in_ok-feed_events.field-0.now in
-    let behind = take (length rest - 1) (drop 1 rest) in
-    let old = contents c.args.output.now in
-    let mid = contents c.feed_events.new.output in
-    let new = contents c.write_answer.new.output in
-    let events =
-    fed_on a c.loop-byte.self c.feed_events.new.self input c.loop-byte.rest.now rest old (contents c.loop-byte.output) mid c.loop-byte.invariant
-    c.in_ok-feed_events.ensures.fed in
-    let byte =
-    byte_fed c.feed_events.new.self c.push.new.self (get_or rest 0 0) rest behind (answer_bytes c.push.result) mid new
-    (front_one rest c.in-len1-up.len_at_least) c.push.ensures.gives c.in_ok-write_answer.ensures in
-    fed_on a c.feed_events.new.self c.push.new.self input rest behind old mid new events byte
-
-pub returns : goal.returns
-returns g c =
-    let contents = g.W.Write.contents in
-    let a = c.args.self.now in
-    let input = c.args.input.now in
-    let rest = c.in_ok-feed_events.field-0.now in
-    let old = contents c.args.output.now in
-    let new = contents c.feed_events.new.output in
-    subst (λ left. FedUpTo a input c.feed_events.new.self left old new) (none_left rest c.in_default.len_below)
-    (fed_on a c.loop-byte.self c.feed_events.new.self input c.loop-byte.rest.now rest old (contents c.loop-byte.output) new c.loop-byte.invariant
-    c.in_ok-feed_events.ensures.fed)
+    let rest = c.loop-rest.rest.now in
+    let behind = c.take-answer.result.1.now in
+    let taken = c.take-answer.new.self in
+    let start = contents c.args.output.now in
+    let old = contents c.loop-rest.output in
+    let mid = contents c.write_all.new.self in
+    let new = contents c.write_refusal.new.output in
+    let grown = subst (Appends old mid) c.deref.ensures.0 (c.in_ok-write_all.ensures).bytes in
+    fed_on c.args.self.now c.loop-rest.self taken input rest behind start old new c.loop-rest.invariant
+    (taken_fed c.loop-rest.self taken rest behind c.take-answer.new.records.items c.take-answer.result.0 old mid new c.take-answer.ensures.taken grown
+    c.in_ok-write_refusal.ensures)

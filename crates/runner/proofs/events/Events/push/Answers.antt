@@ -11,7 +11,7 @@ returns-in_err-begun c =
     let h = c.in_err-begun.ensures in
     let old = c.args.self.now in
     subst (Gives (λ rest. events_to_come old (c.args.byte ∷ rest)) (events_to_come old)) (sym p.1)
-    (none_gives old c.args.byte c.in_err-begun.field-0.0 p.0 h.0 h.1 h.2 p.2)
+    (none_gives old c.args.byte c.in_err-begun.field-0.0 p.0 h.0 h.1 h.2 h.3 p.2)
 
 pub returns-in-Some : goal.returns-in-Some
 returns-in-Some c =

@@ -11,7 +11,7 @@ returns-in_err-event-clause-gives c =
     let old = c.args.self.now in
     let some : 0 < length c.args.bytes = omega arith in
     subst (Gives (λ rest. events_to_come old (c.args.bytes ++ rest)) (events_to_come old)) (sym p.1)
-    (none_in_front_gives old c.args.bytes c.in_err-event.field-0.0 p.0 some (nothing_begun old.begun c.requires.between) h.0 h.1 p.2)
+    (none_in_front_gives old c.args.bytes c.in_err-event.field-0.0 p.0 some (nothing_begun old.begun c.requires.between) h.0 h.1 h.2 p.2)
 
 pub returns-clause-gives : goal.returns-clause-gives
 returns-clause-gives c =

@@ -1,10 +1,10 @@
 use Rattle.std.proofs.Common.{◌≡◌, ◌+◌, ◌≤◌, ◌++◌, length, take, Some, ◌∙◌, sym, ap, subst, arith}
 use Rattle.std.proofs.lemmas.List.{take_all}
 use Rattle.std.proofs.lemmas.Result.{err_from_is_err_and}
-use Rattle.fault.specs.Faults.{creation_told}
+use Rattle.std.specs.Option.{option_map}
 use Rattle.octets.specs.BigEndian.{told_length}
 use Rattle.table.specs.Refusals.{table_refusal}
-use Rattle.runner.specs.Output.{output_of}
+use Rattle.runner.specs.Output.{outcome_of, table_fault}
 use Rattle.runner.specs.ToCome.{StageBehind}
 use Rattle.runner.proofs.Tables.{refused_after}
 use Rattle.runner.proofs.stage.Stage.behind.Goals as goal
@@ -15,8 +15,11 @@ returns-in_err-of c =
     let b = c.args.table.items in
     let whole : length b ≡ told_length b + 2 =
     sym c.len.ensures.value ∙ c.if-len-whole.true ∙ c.whole_bytes-whole.ensures ∙ ap (λ xs. told_length xs + 2) c.deref.ensures.0 in
-    let refused = ap table_refusal (sym c.deref-then-len-whole.ensures.0) ∙ c.in_err-of.ensures ∙ ap (λ e. Some (creation_told e)) (sym p.2) in
-    subst (StageBehind b) (sym p.1) (λ rest. refused_after b rest (creation_told p.0) whole refused)
+    let refused =
+    ap (λ xs. option_map table_fault (table_refusal xs)) (sym c.deref-then-len-whole.ensures.0)
+    ∙ c.in_err-of.ensures
+    ∙ ap (λ e. Some e) (sym p.2) in
+    subst (StageBehind b) (sym p.1) (λ rest. refused_after b rest p.0 whole refused)
 
 pub returns : goal.returns
 returns c =
@@ -26,4 +29,4 @@ returns c =
     let few : length b ≤ 6 = c.requires.short (omega (arith, told, long)) in
     let header : c.in-Some.header.now ≡ b =
     c.in-Some.ensures.cases.same ∙ ap (take 6) c.deref-2.ensures.0 ∙ take_all 6 b few in
-    λ rest. ap (λ xs. output_of (xs ++ rest)) (sym header) ∙ c.after.ensures rest
+    λ rest. ap (λ xs. outcome_of (xs ++ rest)) (sym header) ∙ c.after.ensures rest
