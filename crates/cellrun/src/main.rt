@@ -7,7 +7,11 @@ use std::io;
 use std::io::BufWriter;
 
 #[cfg(test)]
+mod fakes;
+#[cfg(test)]
 mod runs;
+#[cfg(test)]
+mod stream_tests;
 #[cfg(test)]
 mod tests;
 

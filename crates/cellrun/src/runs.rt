@@ -657,11 +657,14 @@ pub(crate) const LONG_RUN_TABLE: [u8; 10] = [
     0x00, 0x08, 0x01, 0x01, 0x00, 0x01, 0x01, 0x00, 0x02, 0x02,
 ];
 
-/// After the table, this arrival comes so many times: 999,999,840 packets.
+/// After the table this arrival comes 3,921,568 times, with 999,999,840 packets.
 pub(crate) const LONG_RUN_ARRIVAL: [u8; 3] = [0x41, 0x00, 0xff];
 
-/// How many times it comes.
-pub(crate) const LONG_RUN_ARRIVALS: u32 = 3_921_568;
+/// It comes in this many pieces, each of 32 arrivals.
+pub(crate) const LONG_RUN_PIECES: u32 = 122_549;
+
+/// The arrivals of a piece.
+pub(crate) const LONG_RUN_PIECE: u32 = 32;
 
 /// Then 160 packets make it as many as may have arrived, and none more is accepted, but one more is refused. The last
 /// event is not read.
