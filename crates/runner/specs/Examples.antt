@@ -1,7 +1,15 @@
 -- Worked runs: what runs write, beside what was worked out by hand.
-use Rattle.std.specs.Prelude.{◌≡◌, ℕ, List, [], ◌∷◌, ◌++◌, replicate, take}
+use Rattle.std.specs.Prelude.{◌≡◌, ℕ, List, [], ◌∷◌, ◌++◌, Some, None, replicate, take}
 use Rattle.std.specs.List.{flat_map, range_with_len}
-use Rattle.runner.specs.Output.{output_of}
+use Rattle.fault.specs.declared.ArrivalFault.TheVariants.{NoSuchFlow}
+use Rattle.fault.specs.declared.CreationFault.TheVariants.{Table}
+use Rattle.fault.specs.declared.HeaderFault.TheVariants.{FlowCount, Frame, Kind, Lookahead}
+use Rattle.fault.specs.declared.FrameFault.TheVariants.{Length, Version}
+use Rattle.fault.specs.declared.LineFault.{LineFault}
+use Rattle.fault.specs.declared.LineFault.TheVariants.{DelayWeight, Header, Weight}
+use Rattle.fault.specs.declared.RunFault.{RunFault}
+use Rattle.fault.specs.declared.RunFault.TheVariants.{Arrival, Creation}
+use Rattle.runner.specs.Output.{cut_event, outcome_of, output_of, refused_by, unknown_event}
 
 -- two flows of weight 1 under round robin, with limits of 2
 abbrev pub two_flows : List ℕ
@@ -27,12 +35,41 @@ two_flows_of_tags = 0x00 ∷ 0x0c ∷ 1 ∷ 2 ∷ 0 ∷ 2 ∷ 2 ∷ 2 ∷ 2 ∷ 
 abbrev pub sixteen_flows : List ℕ
 sixteen_flows = 0x00 ∷ 0x44 ∷ 1 ∷ 1 ∷ 0 ∷ 16 ∷ flat_map (λ f. 1 ∷ 0 ∷ 0 ∷ 0 ∷ []) (range_with_len 0 16)
 
--- so many bytes of 0
+-- n bytes of 0
 abbrev pub zeros : ℕ → List ℕ
 zeros n = replicate n 0
 
 abbrev pub refusal : ℕ → List ℕ
 refusal n = 0x00 ∷ 0x02 ∷ 1 ∷ n ∷ []
+
+-- a table is refused
+abbrev pub of_table : LineFault → RunFault
+of_table e = Creation (Table e)
+
+-- The faults that refuse runs, beside what was worked out by hand.
+pub record WorkedFaults : Type 0 where
+  pub nothing_refused : (outcome_of (two_flows ++ phase 3)).refused ≡ None
+  pub nothing : outcome_of [] ≡ refused_by (of_table (Header (Frame Length)))
+  pub other_version : outcome_of (0 ∷ 4 ∷ 2 ∷ 1 ∷ 0 ∷ 0 ∷ []) ≡ refused_by (of_table (Header (Frame Version)))
+  pub other_kind : outcome_of (0 ∷ 4 ∷ 1 ∷ 3 ∷ 0 ∷ 0 ∷ []) ≡ refused_by (of_table (Header Kind))
+  pub other_lookahead : outcome_of (0 ∷ 4 ∷ 1 ∷ 1 ∷ 1 ∷ 0 ∷ []) ≡ refused_by (of_table (Header Lookahead))
+  pub no_flow : outcome_of (0 ∷ 4 ∷ 1 ∷ 1 ∷ 0 ∷ 0 ∷ []) ≡ refused_by (of_table (Header FlowCount))
+  -- the second of two flows has no weight, or a delay weight under round robin
+  pub no_weight :
+      outcome_of (take 10 two_flows ++ (0 ∷ 0 ∷ 2 ∷ 2 ∷ [])) ≡ refused_by (of_table (Weight 1))
+  pub some_delay_weight :
+      outcome_of (take 10 two_flows ++ (1 ∷ 1 ∷ 2 ∷ 2 ∷ [])) ≡ refused_by (of_table (DelayWeight 1))
+  -- a long table is refused by what it says, and one that is cut short by its length
+  pub long_table_of_other_kind :
+      outcome_of (0 ∷ 69 ∷ 1 ∷ 3 ∷ 0 ∷ 0 ∷ zeros 65) ≡ refused_by (of_table (Header Kind))
+  pub long_table_cut :
+      outcome_of (0 ∷ 69 ∷ 1 ∷ 3 ∷ 0 ∷ 0 ∷ zeros 64) ≡ refused_by (of_table (Header (Frame Length)))
+  pub no_such_flow : outcome_of (two_flows ++ arrival 2 1) ≡ refused_by (Arrival NoSuchFlow)
+  -- an event is unknown by its first byte, even if the input ends there; an event that is cut short begins as one
+  pub no_event : outcome_of (two_flows ++ (0x42 ∷ [])) ≡ refused_by unknown_event
+  pub no_event_in_front : outcome_of (two_flows ++ (0x42 ∷ 0 ∷ 0 ∷ 0 ∷ [])) ≡ refused_by unknown_event
+  pub cut_arrival : outcome_of (two_flows ++ (0x41 ∷ 1 ∷ [])) ≡ refused_by cut_event
+  pub cut_phase : (outcome_of (two_flows ++ phase 3 ++ (0x53 ∷ []))).refused ≡ Some cut_event
 
 pub record WorkedRuns : Type 0 where
   -- three packets for each flow, and seven slots: flow 0 is dirty in the first, and both are in the fifth
@@ -86,5 +123,7 @@ pub record WorkedRuns : Type 0 where
   pub no_event_between_others : output_of (two_flows ++ (0x42 ∷ []) ++ phase 3) ≡ refusal 16
   pub cut_arrival : output_of (two_flows ++ (0x41 ∷ 1 ∷ [])) ≡ refusal 16
   pub cut_phase : output_of (two_flows ++ phase 3 ++ (0x53 ∷ [])) ≡ slot 0xff 0xff 0 0 0 ++ refusal 16
-  -- bits of the mask that are no flow's are passed over
+  -- bits of the mask that are no flow's are ignored
   pub other_bits : output_of (two_flows ++ arrival 1 1 ++ (0x53 ∷ 0xff ∷ 0xfe ∷ [])) ≡ slot 1 1 1 0 0
+  -- and why runs are refused
+  pub faults : WorkedFaults
