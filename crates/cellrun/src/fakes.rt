@@ -4,8 +4,8 @@ use std::cell::Cell;
 use std::io;
 use std::io::{ErrorKind, Read, Write};
 
-/// An input that gives one piece at each read, and before it a read that is interrupted. An empty piece is an end of the
-/// input. Behind the last piece it fails.
+/// An input that gives a piece at each read, and is interrupted before each one. An empty piece is an
+/// end of the input. Behind the last piece it fails.
 #[derive(Drop)]
 pub(crate) struct Pieces<'a> {
     pub(crate) rest: &'a [&'a [u8]],
@@ -36,7 +36,8 @@ impl Read for Pieces<'_> {
     }
 }
 
-/// An input that gives a piece at each read, and then ends. It keeps how much of the output was shown at each read.
+/// An input that gives a piece at each read, and then ends. It keeps how much of the output was shown
+/// at each read.
 #[derive(Drop)]
 pub(crate) struct Watching<'a> {
     pub(crate) rest: &'a [&'a [u8]],
@@ -81,7 +82,7 @@ impl Write for Held<'_> {
     }
 }
 
-/// An output that takes no more than so many bytes, and then fails.
+/// An output that has room for this many bytes, and then fails.
 #[derive(Drop)]
 pub(crate) struct Full {
     pub(crate) room: usize,
@@ -127,7 +128,7 @@ impl Write for Bytewise {
     }
 }
 
-/// An output that takes every byte, and can be flushed so many times.
+/// An output that takes every byte, and fails after this many flushes.
 #[derive(Drop)]
 pub(crate) struct Stuck {
     pub(crate) flushes: usize,

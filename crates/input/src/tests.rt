@@ -33,7 +33,8 @@ fn a_table_and_a_long_rest(rt: HostRuntime) -> Result<(), Fail> {
     Ok(())
 }
 
-/// An input that gives a byte at each read, is interrupted before each one, and fails behind the last one.
+/// An input that gives a byte at each read, is interrupted before each one, and fails behind the
+/// last one.
 #[derive(Drop)]
 struct Faltering<'a> {
     rest: &'a [u8],

@@ -53,9 +53,10 @@ abbrev pub Taken : Events → Event → Events → Result (Option Record) RunFau
 Taken old event new (Ok r) = (done_by (held old) event ≡ going_on (bytes_of r) (held new)) × (new.begun ≡ old.begun)
 Taken old event new (Err e) = done_by (held old) event ≡ stopped own e
 
--- What is to come before an answer is what the answer gives, and then what is to come after it. After a refusal
--- nothing is.
-abbrev pub Gives : (List ℕ → RunOutcome) → (List ℕ → RunOutcome) → Result (Option Record) RunFault → Type 0
+-- What is to come before an answer is what the answer gives, and then what is to come after it. After
+-- a refusal nothing is.
+abbrev pub Gives :
+    (List ℕ → RunOutcome) → (List ℕ → RunOutcome) → Result (Option Record) RunFault → Type 0
 Gives before after (Ok r) = (rest : List ℕ) → before rest ≡ in_front_of (bytes_of r) (after rest)
 Gives before after (Err e) = (rest : List ℕ) → before rest ≡ refused_by e
 
@@ -64,6 +65,7 @@ Gives before after (Err e) = (rest : List ℕ) → before rest ≡ refused_by e
 abbrev pub FrontTaken : Events → List ℕ → List ℕ → Events → List ℕ → Result Unit RunFault → Type 0
 FrontTaken before bytes written after behind (Ok _) =
     (rest : List ℕ)
-    → events_to_come before (bytes ++ rest) ≡ in_front_of written (events_to_come after (behind ++ rest))
+    → events_to_come before (bytes ++ rest)
+    ≡ in_front_of written (events_to_come after (behind ++ rest))
 FrontTaken before bytes written after behind (Err e) =
     (rest : List ℕ) → events_to_come before (bytes ++ rest) ≡ in_front_of written (refused_by e)

@@ -50,9 +50,11 @@ of_table e = Creation (Table e)
 pub record WorkedFaults : Type 0 where
   pub nothing_refused : (outcome_of (two_flows ++ phase 3)).refused ≡ None
   pub nothing : outcome_of [] ≡ refused_by (of_table (Header (Frame Length)))
-  pub other_version : outcome_of (0 ∷ 4 ∷ 2 ∷ 1 ∷ 0 ∷ 0 ∷ []) ≡ refused_by (of_table (Header (Frame Version)))
+  pub other_version :
+      outcome_of (0 ∷ 4 ∷ 2 ∷ 1 ∷ 0 ∷ 0 ∷ []) ≡ refused_by (of_table (Header (Frame Version)))
   pub other_kind : outcome_of (0 ∷ 4 ∷ 1 ∷ 3 ∷ 0 ∷ 0 ∷ []) ≡ refused_by (of_table (Header Kind))
-  pub other_lookahead : outcome_of (0 ∷ 4 ∷ 1 ∷ 1 ∷ 1 ∷ 0 ∷ []) ≡ refused_by (of_table (Header Lookahead))
+  pub other_lookahead :
+      outcome_of (0 ∷ 4 ∷ 1 ∷ 1 ∷ 1 ∷ 0 ∷ []) ≡ refused_by (of_table (Header Lookahead))
   pub no_flow : outcome_of (0 ∷ 4 ∷ 1 ∷ 1 ∷ 0 ∷ 0 ∷ []) ≡ refused_by (of_table (Header FlowCount))
   -- the second of two flows has no weight, or a delay weight under round robin
   pub no_weight :
@@ -65,9 +67,11 @@ pub record WorkedFaults : Type 0 where
   pub long_table_cut :
       outcome_of (0 ∷ 69 ∷ 1 ∷ 3 ∷ 0 ∷ 0 ∷ zeros 64) ≡ refused_by (of_table (Header (Frame Length)))
   pub no_such_flow : outcome_of (two_flows ++ arrival 2 1) ≡ refused_by (Arrival NoSuchFlow)
-  -- an event is unknown by its first byte, even if the input ends there; an event that is cut short begins as one
+  -- an event is unknown by its first byte, even if the input ends there; one that is cut short begins
+  -- like an event
   pub no_event : outcome_of (two_flows ++ (0x42 ∷ [])) ≡ refused_by unknown_event
-  pub no_event_in_front : outcome_of (two_flows ++ (0x42 ∷ 0 ∷ 0 ∷ 0 ∷ [])) ≡ refused_by unknown_event
+  pub no_event_in_front :
+      outcome_of (two_flows ++ (0x42 ∷ 0 ∷ 0 ∷ 0 ∷ [])) ≡ refused_by unknown_event
   pub cut_arrival : outcome_of (two_flows ++ (0x41 ∷ 1 ∷ [])) ≡ refused_by cut_event
   pub cut_phase : (outcome_of (two_flows ++ phase 3 ++ (0x53 ∷ []))).refused ≡ Some cut_event
 

@@ -16,17 +16,19 @@ abbrev pub stop_bytes : Result Unit RunFault → List ℕ
 stop_bytes (Ok _) = []
 stop_bytes (Err e) = refusal_bytes (run_number e)
 
--- Bytes were taken off the front of the bytes, which gave the records that are written, and others are left; or the run
--- was refused, after these records.
+-- Bytes were taken off the front of the bytes, which gave these records, and others are left; or the
+-- run was refused, after these records.
 abbrev pub RunTaken : Run → List ℕ → List ℕ → Run → List ℕ → Result Unit RunFault → Type 0
-RunTaken before bytes written after behind (Ok _) =
-    (rest : List ℕ) → to_come before (bytes ++ rest) ≡ in_front_of written (to_come after (behind ++ rest))
-RunTaken before bytes written after behind (Err e) =
-    ((rest : List ℕ) → to_come before (bytes ++ rest) ≡ in_front_of written (refused_by e)) × IsDone after
+RunTaken before bytes records after behind (Ok _) =
+    (rest : List ℕ)
+    → to_come before (bytes ++ rest) ≡ in_front_of records (to_come after (behind ++ rest))
+RunTaken before bytes records after behind (Err e) =
+    ((rest : List ℕ) → to_come before (bytes ++ rest) ≡ in_front_of records (refused_by e))
+    × IsDone after
 
--- A run before was fed bytes but for those that are left, which leaves it as after, and an output that held some bytes
--- grew by what was written: whatever follows, the bytes that were still to be written are those, and then those that
--- are still to be written.
+-- A run before was fed bytes but for those that are left, which leaves it as after, and an output
+-- grew by what was written: whatever follows, what was still to be written is that, and then what is
+-- still to be written.
 pub record FedUpTo (before : Run) (bytes : List ℕ) (after : Run) (left : List ℕ) (old new : Option (List ℕ)) : Type 0 where
   pub written : List ℕ
   pub grown : Appends old new written

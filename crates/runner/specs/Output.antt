@@ -1,4 +1,5 @@
--- What a whole run comes to, for a whole input: the bytes that it writes, and why it is refused, if it is.
+-- The outcome of a whole run, for a whole input: the bytes that it writes, and the fault that refuses
+-- it, if one does.
 use Rattle.std.specs.Prelude.{ℕ, ◌+◌, Bool, cond, ◌&&◌, ◌||◌, ◌⊎◌, List, [], ◌∷◌, ◌++◌, length, take, drop, Some, None, Ok, Err, Option, Result, ◌==◌, nat_lt, if◌then◌else◌}
 use Rattle.std.specs.Option.{option_map}
 use Rattle.std.proofs.Common.{inl, inr}
@@ -25,7 +26,7 @@ use Rattle.table_reference.specs.View.{own}
 use Rattle.tag_rule.specs.Rule.{start as tags_start}
 use Rattle.tag_rule.specs.Tags.{Tagged, seen}
 
--- ## What a run comes to
+-- ## The outcome of a run
 
 -- the bytes that are written, and the fault that refuses the run, if one does
 pub record RunOutcome : Type 0 where
@@ -97,7 +98,7 @@ unknown_event = Event Unknown
 abbrev pub cut_off : ℕ → RunFault
 cut_off e = if e == 0x41 || e == 0x53 then cut_event else unknown_event
 
--- bit i of the mask is set for flow i of n; other bits are passed over
+-- bit i of the mask is set for flow i of n; other bits are ignored
 abbrev pub clean_by : ℕ → ℕ → ℕ → Bool
 clean_by n mask f = nat_lt f n && has mask f
 
@@ -117,19 +118,24 @@ module _ (M : Meaning) where
 
   -- why packets do not arrive, and why no control phase is opened
   abbrev pub arrival_stop : State M → ℕ → ℕ → Option RunFault
-  arrival_stop s f n = option_map (λ number. Arrival (arrival_fault number)) (arrival_refusal s.rows f n)
+  arrival_stop s f n =
+      option_map (λ number. Arrival (arrival_fault number)) (arrival_refusal s.rows f n)
 
   abbrev pub opening_stop : State M → Option RunFault
   opening_stop s = option_map (λ number. Opening AllDecided) (opening_refusal s.slot)
 
   -- n packets arrive for flow f
   abbrev pub arrival_done : State M → ℕ → ℕ → Done M
-  arrival_done s f n = or_stopped (arrival_stop s f n) (record { written = []; after = Ok (arrived M s f n) })
+  arrival_done s f n =
+      or_stopped (arrival_stop s f n) (record { written = []; after = Ok (arrived M s f n) })
 
   -- a slot is decided, for which these flows are clean
   abbrev pub slot_done : State M → (ℕ → Bool) → Done M
   slot_done s clean =
-      record { written = outcome_bytes (outcome M s clean) (length s.rows) s.slot; after = Ok (decided M s clean) }
+      record {
+        written = outcome_bytes (outcome M s clean) (length s.rows) s.slot;
+        after = Ok (decided M s clean);
+      }
 
   -- every flow flags as the mask says, and then the slot is decided
   abbrev pub phase_done : State M → ℕ → Done M
@@ -138,9 +144,12 @@ module _ (M : Meaning) where
   -- the event of these three bytes
   abbrev pub event_done : State M → ℕ → ℕ → ℕ → Done M
   event_done s e a b =
-      cond (e == 0x41) (arrival_done s a b) (cond (e == 0x53) (phase_done s (be_number (a ∷ b ∷ []))) (stopped unknown_event))
+      if e == 0x41
+      then arrival_done s a b
+      else (if e == 0x53 then phase_done s (be_number (a ∷ b ∷ [])) else stopped unknown_event)
 
-  -- one event after the other, until the run stops; one that the end of the input cuts short is none
+  -- One event after the other, until the run stops: nothing is read after a refusal. An event that the
+  -- end of the input cuts short is none.
   abbrev pub events : Result (State M) RunFault → List ℕ → RunOutcome
   events (Err e) input = record { written = []; refused = Some e }
   events (Ok s) [] = nothing_more
@@ -159,14 +168,15 @@ cell_of table = created own (start_of table) (lines_of table)
 abbrev pub table_fault : Refusal → CreationFault
 table_fault r = OfTable (line_fault r)
 
--- what a table and the events after it come to
+-- the outcome of a table and the events after it
 abbrev pub outcome_by : Option Refusal → List ℕ → List ℕ → RunOutcome
 outcome_by (Some r) table input = refused_by (Creation (table_fault r))
 outcome_by None table input = events own (Ok (cell_of table)) input
 
--- what a whole input comes to
+-- the outcome of a whole input
 abbrev pub outcome_of : List ℕ → RunOutcome
-outcome_of input = outcome_by (table_refusal (table_part input)) (table_part input) (events_part input)
+outcome_of input =
+    outcome_by (table_refusal (table_part input)) (table_part input) (events_part input)
 
 -- the bytes that are written for it
 abbrev pub output_of : List ℕ → List ℕ

@@ -35,7 +35,7 @@ abbrev pub CameTo : List ℕ → Begun → Option Event → Type 0
 CameTo bs begun None = bs ≡ begun_bytes begun
 CameTo bs begun (Some e) = BytesOf e bs × (begun ≡ Nothing)
 
--- a further byte; only the first byte of an event can be none of an event, and the event is unknown then
+-- a further byte; only the first byte of an event can begin none, and the event is unknown then
 abbrev pub Parsed : Begun → ℕ → Result (Begun × Option Event) EventFault → Type 0
 Parsed begun byte (Ok x) = CameTo (begun_bytes begun ++ byte ∷ []) x.0 x.1
 Parsed begun byte (Err e) = (begun ≡ Nothing) × (byte ≢ 0x41) × (byte ≢ 0x53) × (e ≡ Unknown)

@@ -11,29 +11,37 @@ use Rattle.runner.specs.declared.slots.Slots.{Slots}
 use Rattle.runner.specs.declared.stage.Stage.{Stage}
 use Rattle.runner.specs.declared.stage.Stage.TheVariants.{Over}
 
--- what the slots that are left, and the end of the input behind them, come to
+-- the outcome of the slots that are left, and of the end of the input behind them
 abbrev pub slots_to_come : Slots → RunOutcome
 slots_to_come s = to_come s.run s.rest.now
 
--- The next slot's record is the first that is written. A fault refuses the run, after all records. None comes only where
--- nothing is left.
+-- The next slot's record is the first that is written. A fault refuses the run, after all records.
+-- None comes only where nothing is left.
 abbrev pub NextSlot : Slots → Option (Result Record RunFault) → Slots → Type 0
 NextSlot old None new = (slots_to_come old ≡ nothing_more) × (slots_to_come new ≡ nothing_more)
-NextSlot old (Some (Ok r)) new = slots_to_come old ≡ in_front_of (record_bytes r) (slots_to_come new)
-NextSlot old (Some (Err e)) new = (slots_to_come old ≡ refused_by e) × (slots_to_come new ≡ nothing_more)
+NextSlot old (Some (Ok r)) new =
+    slots_to_come old ≡ in_front_of (record_bytes r) (slots_to_come new)
+NextSlot old (Some (Err e)) new =
+    (slots_to_come old ≡ refused_by e) × (slots_to_come new ≡ nothing_more)
 
--- what answers come to, one after the other: the bytes of a record, or of a refusal
+-- the outcome of answers, one after the other: the bytes of a record, or of a refusal
 abbrev pub answers_outcome : List (Result Record RunFault) → RunOutcome
 answers_outcome [] = nothing_more
 answers_outcome (Ok r ∷ more) = in_front_of (record_bytes r) (answers_outcome more)
 answers_outcome (Err e ∷ more) =
-    record { written = refusal_bytes (run_number e) ++ (answers_outcome more).written; refused = Some e }
+    record {
+      written = refusal_bytes (run_number e) ++ (answers_outcome more).written;
+      refused = Some e;
+    }
 
--- all that the slots give, until none is left, comes to x
-abbrev pub ComesTo : Slots → RunOutcome → Type 0
-ComesTo s x = (answers : List (Result Record RunFault)) → Drains NextSlot s answers → answers_outcome answers ≡ x
+-- all that the slots give, until none is left, has the outcome x
+abbrev pub HaveOutcome : Slots → RunOutcome → Type 0
+HaveOutcome s x =
+    (answers : List (Result Record RunFault))
+    → Drains NextSlot s answers
+    → answers_outcome answers ≡ x
 
--- Of no more slots than this can anything come: a byte gives one at most, and the end of the input one more.
+-- No more answers than this are left: a byte gives one at most, and the end of the input one more.
 abbrev pub stage_left : Stage → ℕ
 stage_left Over = 0
 stage_left _ = 1

@@ -24,12 +24,12 @@ to_come r rest = stage_to_come r.stage rest
 abbrev pub IsDone : Run → Type 0
 IsDone r = (rest : List ℕ) → to_come r rest ≡ nothing_more
 
--- what a run comes to after the bytes b of its input, or that its table is refused
+-- the stage of a run after the bytes b of its input, or that its table is refused
 abbrev pub StageBehind : List ℕ → Result Stage CreationFault → Type 0
 StageBehind b (Ok s) = (rest : List ℕ) → outcome_of (b ++ rest) ≡ stage_to_come s rest
 StageBehind b (Err e) = (rest : List ℕ) → outcome_of (b ++ rest) ≡ refused_by (Creation e)
 
--- what an answer to a byte gives, in front of what is to come after it; a refusal is the last that comes
+-- what an answer to a byte gives, in front of what is to come after it; nothing comes after a refusal
 abbrev pub answer_outcome : Result (Option Record) RunFault → RunOutcome → RunOutcome
 answer_outcome (Ok r) after = in_front_of (bytes_of r) after
 answer_outcome (Err e) after = refused_by e

@@ -22,7 +22,7 @@ impl Run {
         }
     }
 
-    /// Ends the input here: a run is refused that is within its table or an event. It has stopped then.
+    /// Ends the input here: refuses a run that is within its table or an event. The run has stopped then.
     pub fn end(&mut self) -> Result<(), RunFault>
         ensures exact { to_come self.old [] ≡ end_outcome result }
         ensures cut { IfErr result IsCut }

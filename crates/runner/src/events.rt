@@ -50,7 +50,7 @@ impl Events {
         }
     }
 
-    /// Has every flow flag, and decides the slot.
+    /// Flags every flow, and decides the slot.
     #[inline(always)]
     fn decide(&mut self, clean: u16) -> Result<Record, OpeningFault>
         ensures { PhaseTaken self.old clean self.new result }
@@ -61,7 +61,7 @@ impl Events {
         Ok(self.cell.decide(reports).unwrap())
     }
 
-    /// Has an event happen: the record of the slot, if it decides one.
+    /// Applies an event: the record of the slot, if it decides one.
     #[inline(always)]
     fn take(&mut self, event: Event) -> Result<Option<Record>, RunFault>
         ensures { Taken self.old event self.new result }
@@ -99,8 +99,9 @@ impl Events {
         self.take(event)
     }
 
-    /// Applies the whole events at the front of the bytes, where the last one is whole, until one is refused or there is
-    /// no room for one more record. Adds their records' bytes; returns the refusal, if there is one, and the bytes left.
+    /// Applies the whole events at the front of the bytes, where the last one is whole, until one is
+    /// refused or there is no room for one more record. Adds their records' bytes; returns the refusal,
+    /// if there is one, and the bytes left.
     // Never inlined: its callers hold more, and the loop would be slower among their locals.
     #[inline(never)]
     pub(crate) fn take_front<'a>(

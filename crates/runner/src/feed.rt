@@ -21,7 +21,8 @@ fn refusal_bytes(fault: RunFault) -> [u8; 4]
 
 /// Writes a refusal, if there is one.
 fn write_refusal<W: Write>(answer: Result<(), RunFault>, output: &mut W) -> io::Result<()>
-    ensures { OnOk result (Appends (W.contents output.old) (W.contents output.new) (stop_bytes answer)) }
+    ensures { OnOk result
+        (Appends (W.contents output.old) (W.contents output.new) (stop_bytes answer)) }
 {
     match answer {
         Ok(()) => Ok(()),
@@ -30,8 +31,8 @@ fn write_refusal<W: Write>(answer: Result<(), RunFault>, output: &mut W) -> io::
 }
 
 impl Run {
-    /// Takes one byte from the front of the bytes. Adds the bytes of the record that it gives, if it gives one; returns
-    /// why the run stops, if it does, and the bytes left.
+    /// Takes one byte from the front of the bytes. Adds the bytes of the record that it gives, if it
+    /// gives one; returns why the run stops, if it does, and the bytes left.
     fn take_one<'a>(
         &mut self,
         bytes: &'a [u8],
@@ -54,8 +55,9 @@ impl Run {
         }
     }
 
-    /// Takes bytes from the front of the bytes: whole events, as many as are taken at once, or else one byte. Adds the
-    /// bytes of the records that they give; returns why the run stops, if it does, and the bytes left.
+    /// Takes bytes from the front of the bytes: whole events, as many as are taken at once, or else one
+    /// byte. Adds the bytes of the records that they give; returns why the run stops, if it does, and
+    /// the bytes left.
     pub(crate) fn take<'a>(
         &mut self,
         bytes: &'a [u8],
@@ -94,7 +96,8 @@ impl Run {
         Ok(())
     }
 
-    /// Ends the input, and writes what that gives: a refusal, if the input ends within a table or an event.
+    /// Ends the input, and writes what that gives: a refusal, if the input ends within a table or an
+    /// event.
     pub fn finish<W: Write>(mut self, output: &mut W) -> io::Result<()>
         ensures { OnOk result
             (Appends (W.contents output.old) (W.contents output.new) (output_to_come self [])) }

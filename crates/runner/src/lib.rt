@@ -1,4 +1,5 @@
-//! A run of a cell: a state that takes the bytes of an input, however they are cut, and gives the records of its slots.
+//! A run of a cell: a state that takes the bytes of an input, however they are cut, and gives the
+//! records of its slots.
 
 #![tactic(auto)]
 
@@ -30,7 +31,7 @@ pub struct Run {
 }
 
 impl Run {
-    /// A run before the first byte of its input: all that a whole input comes to is still to come.
+    /// A run before the first byte of its input: the whole outcome is still to come.
     pub fn new() -> Run
         ensures { (input : List ℕ) → to_come result input ≡ outcome_of input }
     {

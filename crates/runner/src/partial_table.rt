@@ -8,8 +8,8 @@ use fault::CreationFault;
 /// The bytes of the longest table that a flow count makes: that of sixteen flows.
 pub(crate) const MOST_BYTES: usize = 70;
 
-/// The bytes of a table that has not come whole: fewer than its length tells. Of one that is longer than any flow count
-/// makes it they do not reach the end of its header.
+/// The bytes of a table that has not come whole: fewer than its length says, and fewer than a header of
+/// a table that is longer than any flow count makes it.
 #[derive(Drop)]
 pub(crate) struct PartialTable {
     pub(crate) bytes: ArrayVec<u8, MOST_BYTES>,
@@ -34,7 +34,7 @@ impl PartialTable {
     ghost use Rattle.std.specs.Prelude.{[], ◌∷◌, ◌++◌};
     ghost use Rattle.runner.specs.ToCome.{StageBehind};
 
-    /// What the run comes to with a further byte.
+    /// The stage after one more byte.
     pub(crate) fn with(self, byte: u8) -> Result<Stage, CreationFault>
         ensures { StageBehind (self.bytes.items ++ byte ∷ []) result }
     {

@@ -31,7 +31,7 @@ impl Run {
         }
     }
 
-    /// Takes a byte, as `push` does, but goes on after a refusal as if it were none.
+    /// Takes a byte as `push` does, but does not stop at a refusal.
     fn advance(&mut self, byte: u8) -> Result<Option<Record>, RunFault>
         ensures { Gives (λ rest. to_come self.old (byte ∷ rest)) (to_come self.new) result }
     {

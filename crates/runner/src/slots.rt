@@ -1,13 +1,14 @@
 ghost use Rattle.std.specs.Prelude.{◌≡◌};
 ghost use Rattle.std.specs.Iterator.{at_most};
 ghost use Rattle.runner.specs.Output.{outcome_of};
-ghost use Rattle.runner.specs.Slots.{ComesTo, NextSlot, most_left, slots_to_come};
+ghost use Rattle.runner.specs.Slots.{HaveOutcome, NextSlot, most_left, slots_to_come};
 
 use crate::Run;
 use fault::RunFault;
 use record::Record;
 
-/// The slots of an input that is in memory, whole: the record of each, and then why the run is refused, if it is.
+/// The slots of a whole input that is in memory: the record of each, and then why the run is refused,
+/// if it is.
 #[derive(Drop)]
 pub struct Slots<'a> {
     run: Run,
@@ -19,7 +20,7 @@ impl<'a> Slots<'a> {
     /// All slots of an input.
     pub fn of(input: &'a [u8]) -> Slots<'a>
         ensures to_come { slots_to_come result ≡ outcome_of input.now }
-        ensures whole { ComesTo result (outcome_of input.now) }
+        ensures whole { HaveOutcome result (outcome_of input.now) }
     {
         Slots {
             run: Run::new(),

@@ -15,9 +15,9 @@ pub(crate) enum Stage {
     Table(PartialTable),
     /// Nor has this one, which is longer than any flow count makes it.
     LongTable(LongTable),
-    /// There is a cell, and events happen to it.
+    /// There is a cell, to which events are applied.
     Events(Events),
-    /// It has stopped: what is still to come of the input is passed over.
+    /// It has stopped, and ignores the rest of the input.
     Over,
 }
 
@@ -25,7 +25,7 @@ ghost use Rattle.std.specs.Prelude.{◌≡◌, ◌+◌, ◌<◌, ◌≤◌, leng
 ghost use Rattle.octets.specs.BigEndian.{told_length};
 ghost use Rattle.runner.specs.ToCome.{StageBehind};
 
-/// The bytes of a whole table, as its first two tell; one that is not there counts as 0.
+/// How many bytes the whole table has, by its first two; one that is not there counts as 0.
 fn whole_bytes(table: &[u8]) -> usize
     ensures { result ≡ told_length table.now + 2 }
 {
@@ -38,8 +38,8 @@ fn whole_bytes(table: &[u8]) -> usize
 }
 
 impl Stage {
-    /// What a run comes to with these first bytes of its input, which are no more than its table has, and of a table
-    /// that is longer than any flow count makes it no more than its header.
+    /// The stage after these first bytes of the input: at most the whole table, or only the header of a
+    /// table that is longer than any flow count makes it.
     pub(crate) fn behind(table: ArrayVec<u8, MOST_BYTES>) -> Result<Stage, CreationFault>
         requires begun { length table.items ≤ told_length table.items + 2 }
         requires short { 68 < told_length table.items → length table.items ≤ 6 }
