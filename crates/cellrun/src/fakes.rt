@@ -8,8 +8,10 @@ use std::io::{ErrorKind, Read, Write};
 /// end of the input. Behind the last piece it fails.
 #[derive(Drop)]
 pub(crate) struct Pieces<'a> {
-    pub(crate) rest: &'a [&'a [u8]],
+    rest: &'a [&'a [u8]],
     interrupted: bool,
+    /// How often it was read, interrupted reads among them.
+    pub(crate) reads: usize,
 }
 
 impl<'a> Pieces<'a> {
@@ -17,12 +19,14 @@ impl<'a> Pieces<'a> {
         Pieces {
             rest: pieces,
             interrupted: false,
+            reads: 0,
         }
     }
 }
 
 impl Read for Pieces<'_> {
     fn read(&mut self, buf: &mut [u8]) -> io::Result<usize> {
+        self.reads = self.reads.saturating_add(1);
         self.interrupted = !self.interrupted;
         if self.interrupted {
             return Err(io::Error::from(ErrorKind::Interrupted));

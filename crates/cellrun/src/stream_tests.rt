@@ -44,7 +44,7 @@ fn nothing_is_read_after_a_refusal(rt: HostRuntime) -> Result<(), Fail> {
     let mut input = Pieces::new(&pieces);
     run(&mut input, &mut output)?;
     assert_eq!(rt; output.as_slice(), [0x00, 0x02, 0x01, 0x10].as_slice());
-    assert_eq!(rt; input.rest.len(), 2);
+    assert_eq!(rt; input.reads, 4);
     Ok(())
 }
 
@@ -55,7 +55,7 @@ fn nothing_is_read_after_the_end(rt: HostRuntime) -> Result<(), Fail> {
     let mut input = Pieces::new(&pieces);
     run(&mut input, &mut output)?;
     assert_eq!(rt; output.as_slice(), [].as_slice());
-    assert_eq!(rt; input.rest.len(), 1);
+    assert_eq!(rt; input.reads, 4);
     Ok(())
 }
 
@@ -65,7 +65,7 @@ fn nothing_is_read_after_the_output_failed(rt: HostRuntime) -> Result<(), Fail> 
     let mut input = Pieces::new(&pieces);
     let answer = run(&mut input, &mut Full { room: 11 });
     assert_eq!(rt; error_kind(answer)?, ErrorKind::StorageFull);
-    assert_eq!(rt; input.rest.len(), 2);
+    assert_eq!(rt; input.reads, 4);
     Ok(())
 }
 

@@ -1,21 +1,17 @@
 -- Events, one after the other.
-use Rattle.std.proofs.Common.{◌≡◌, ◌≢◌, ℕ, List, [], ◌∷◌, ◌++◌, length, Some, None, Ok, Err, Option, Result, false, cond, ◌==◌, refl, sym, ap, ◌∙◌, append_assoc, arith, ◌<◌, length, subst, true, true≢false, ◌&&◌, ◌||◌, nat_lt, IfOk, ◌≤◌, ◌-◌, get_or, take, drop}
+use Rattle.std.proofs.Common.{◌≡◌, ◌≢◌, ℕ, List, [], ◌∷◌, ◌++◌, length, None, Ok, Err, Option, Result, false, cond, ◌==◌, refl, sym, ap, ◌∙◌, append_assoc, arith, ◌<◌, length, subst, true, true≢false, ◌&&◌, ◌||◌, nat_lt, IfOk, ◌≤◌, ◌-◌, get_or, take, drop}
 use Rattle.std.proofs.lemmas.Bool.Decides.{nat_tests}
 use Rattle.std.proofs.Math.Seq.{take-length}
 use Rattle.std.proofs.lemmas.Nat.Bits.{bit_at-zero}
 use Rattle.std.specs.Option.{option_map}
 use Rattle.cell.specs.CellView.{said_by}
 use Rattle.cell.specs.ReportSetView.{RestFlagged}
-use Rattle.cell_rules.specs.Rules.{Reports, State, arrival_refusal, arrived, decided, flags_clean, has, opened, opening_refusal, outcome}
-use Rattle.fault.proofs.Inverses.{arrival_fault-arrival_number}
-use Rattle.fault.specs.Faults.{arrival_fault, arrival_number, opening_number}
-use Rattle.fault.specs.declared.ArrivalFault.{ArrivalFault}
-use Rattle.fault.specs.declared.OpeningFault.{OpeningFault}
+use Rattle.cell_rules.specs.Rules.{Reports, State, decided, flags_clean, has, opened, opening_refusal, outcome}
 use Rattle.fault.specs.declared.OpeningFault.TheVariants.{AllDecided}
 use Rattle.fault.specs.declared.EventFault.{EventFault}
 use Rattle.fault.specs.declared.EventFault.TheVariants.{Unknown}
 use Rattle.fault.specs.declared.RunFault.{RunFault}
-use Rattle.fault.specs.declared.RunFault.TheVariants.{Arrival as OfArrival, Event as OfEvent, Opening as OfOpening}
+use Rattle.fault.specs.declared.RunFault.TheVariants.{Event as OfEvent, Opening as OfOpening}
 use Rattle.octets.specs.BigEndian.{be_number, byte_at}
 use Rattle.record.specs.Layout.{record_bytes}
 use Rattle.record.specs.declared.Record.{Record}
@@ -33,27 +29,6 @@ use Rattle.runner.specs.declared.events.Events.{Events}
 
 pub in_front_of-append : (v w : List ℕ) (x : RunOutcome) → in_front_of (v ++ w) x ≡ in_front_of v (in_front_of w x)
 in_front_of-append v w x = ap (λ bytes. record { written = bytes; refused = x.refused }) (append_assoc v w x.written)
-
--- ## What refuses an event
-
-pub arrival_refused :
-    (s : State own) (f n : ℕ) (e : ArrivalFault)
-    → arrival_refusal s.rows f n ≡ Some (arrival_number e)
-    → arrival_done own s f n ≡ stopped own (OfArrival e)
-arrival_refused s f n e refused =
-    ap (λ o. or_stopped own (option_map (λ k. OfArrival (arrival_fault k)) o) (record { written = []; after = Ok (arrived own s f n) })) refused
-    ∙ ap (λ a. stopped own (OfArrival a)) (arrival_fault-arrival_number e)
-
-only_opening_fault : (e : OpeningFault) → AllDecided ≡ e
-only_opening_fault AllDecided = refl
-
-pub phase_refused :
-    (s : State own) (clean : ℕ) (e : OpeningFault)
-    → opening_refusal s.slot ≡ Some (opening_number e)
-    → phase_done own s clean ≡ stopped own (OfOpening e)
-phase_refused s clean e refused =
-    ap (λ o. or_stopped own (option_map (λ n. OfOpening AllDecided) o) (slot_done own s (clean_by (length s.rows) clean))) refused
-    ∙ ap (λ f. stopped own (OfOpening f)) (only_opening_fault e)
 
 -- ## Events
 

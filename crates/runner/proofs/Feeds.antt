@@ -1,17 +1,13 @@
 -- What is written piece by piece.
-use Rattle.std.proofs.Common.{◌≡◌, ℕ, List, [], ◌∷◌, ◌++◌, ◌-◌, ◌<◌, ◌≤◌, length, take, drop, get_or, arith, Some, None, Ok, Err, Option, Result, refl, sym, ap, ◌∙◌, append_assoc}
-use Rattle.std.proofs.Math.Seq.{take-length}
+use Rattle.std.proofs.Common.{◌≡◌, ℕ, List, [], ◌∷◌, ◌++◌, ◌<◌, length, arith, Some, None, Ok, Err, Option, Result, OnOk, is_err, true, false, true≢false, refl, sym, subst, ap, ◌∙◌, append_assoc}
 use Rattle.std.proofs.lemmas.List.{append-nil}
 use Rattle.std.specs.Io.KnownBytes.{Appends}
 use Rattle.fault.specs.Faults.{run_number}
 use Rattle.fault.specs.declared.RunFault.{RunFault}
-use Rattle.record.specs.declared.Record.{Record}
-use Rattle.runner.specs.EventsView.{FrontTaken}
-use Rattle.runner.specs.Feeding.{FedUpTo, RunTaken, output_to_come, stop_bytes}
-use Rattle.runner.specs.Output.{in_front_of, refusal_bytes}
-use Rattle.runner.specs.ToCome.{answer_outcome, stage_to_come, to_come}
-use Rattle.runner.specs.declared.events.Events.{Events as EventsOf}
-use Rattle.runner.specs.declared.stage.Stage.TheVariants.{Events, Over}
+use Rattle.runner.specs.Feeding.{Fed, RunTaken, output_to_come, stop_bytes}
+use Rattle.runner.specs.Output.{in_front_of, refusal_bytes, refused_by}
+use Rattle.runner.specs.ToCome.{to_come}
+use Rattle.runner.proofs.EventSteps.{in_front_of-append}
 use Rattle.runner.specs.declared.Run.{Run}
 
 pub appends_nothing : (old : Option (List ℕ)) → Appends old old []
@@ -25,90 +21,84 @@ appends_both (Some xs) None new v w h k = absurd h
 appends_both (Some xs) (Some ys) None v w h k = absurd k
 appends_both (Some xs) (Some ys) (Some zs) v w h k = k ∙ ap (λ s. s ++ w) h ∙ append_assoc xs v w
 
--- some of the bytes, and then more
+-- Bytes were fed, others are left, and the run goes on: the output grew by records.
+pub record FedUpTo (before : Run) (bytes : List ℕ) (after : Run) (left : List ℕ) (old new : Option (List ℕ)) : Type 0 where
+  pub records : List ℕ
+  pub goes_on : (rest : List ℕ) → to_come before (bytes ++ rest) ≡ in_front_of records (to_come after (left ++ rest))
+  pub grown : Appends old new records
+
 pub fed_on :
-    (a b c : Run) (bytes left behind : List ℕ) (old mid new : Option (List ℕ))
+    (a b c : Run) (bytes left behind records : List ℕ) (answer : Result Unit RunFault) (old mid new : Option (List ℕ))
     → FedUpTo a bytes b left old mid
-    → FedUpTo b left c behind mid new
+    → RunTaken b left records c behind answer
+    → is_err answer ≡ false
+    → Appends mid new records
     → FedUpTo a bytes c behind old new
-fed_on a b c bytes left behind old mid new f g =
+fed_on a b c bytes left behind records (Err e) old mid new f taken ok grown = absurd (true≢false ok)
+fed_on a b c bytes left behind records (Ok x) old mid new f taken ok grown =
     record {
-      written = f.written ++ g.written;
-      grown = appends_both old mid new f.written g.written f.grown g.grown;
-      whatever_follows =
+      records = f.records ++ records;
+      goes_on =
           λ rest.
-          f.whatever_follows rest
-          ∙ ap (λ s. f.written ++ s) (g.whatever_follows rest)
-          ∙ sym (append_assoc f.written g.written (output_to_come c (behind ++ rest)));
+          f.goes_on rest
+          ∙ ap (in_front_of f.records) (taken rest)
+          ∙ sym (in_front_of-append f.records records (to_come c (behind ++ rest)));
+      grown = appends_both old mid new f.records records f.grown grown;
     }
 
--- what was taken is written: the records, and then the refusal, if there is one
-pub taken_fed :
-    (a b : Run) (bytes behind written : List ℕ) (answer : Result Unit RunFault) (old mid new : Option (List ℕ))
-    → RunTaken a bytes written b behind answer
-    → Appends old mid written
-    → Appends mid new (stop_bytes answer)
-    → FedUpTo a bytes b behind old new
-taken_fed a b bytes behind written (Ok x) old mid new taken grown stop =
+pub fed_to_the_refusal :
+    (a b c : Run) (bytes left behind records : List ℕ) (answer : Result Unit RunFault) (old mid late new : Option (List ℕ))
+    → FedUpTo a bytes b left old mid
+    → RunTaken b left records c behind answer
+    → is_err answer ≡ true
+    → Appends mid late records
+    → Appends late new (stop_bytes answer)
+    → Fed a bytes c old new
+fed_to_the_refusal a b c bytes left behind records (Ok x) old mid late new f taken err grown stop = absurd (true≢false (sym err))
+fed_to_the_refusal a b c bytes left behind records (Err e) old mid late new f taken err grown stop =
     record {
-      written = written ++ [];
-      grown = appends_both old mid new written [] grown stop;
-      whatever_follows =
-          λ rest.
-          ap (λ o. o.written) (taken rest)
-          ∙ sym (ap (λ w. w ++ output_to_come b (behind ++ rest)) (append-nil written));
-    }
-taken_fed a b bytes behind written (Err e) old mid new taken grown stop =
-    let all = written ++ refusal_bytes (run_number e) in
-    record {
-      written = all;
-      grown = appends_both old mid new written (refusal_bytes (run_number e)) grown stop;
-      whatever_follows =
-          λ rest.
-          ap (λ o. o.written) (taken.0 rest)
-          ∙ sym (append-nil all)
-          ∙ sym (ap (λ o. all ++ o.written) (taken.1 (behind ++ rest)));
+      records = f.records ++ records;
+      answer = Err e;
+      taken = (
+        λ rest.
+            f.goes_on rest
+            ∙ ap (in_front_of f.records) (taken.0 rest)
+            ∙ sym (in_front_of-append f.records records (refused_by e)),
+        taken.1,
+      );
+      grown =
+          appends_both old late new (f.records ++ records) (stop_bytes (Err e))
+          (appends_both old mid late f.records records f.grown grown) stop;
     }
 
--- whole events from the front
-pub events_taken :
-    (a b : Run) (e f : EventsOf) (bytes behind written : List ℕ) (x : Unit)
-    → a.stage ≡ Events e
-    → b.stage ≡ Events f
-    → FrontTaken e bytes written f behind (Ok x)
-    → RunTaken a bytes written b behind (Ok x)
-events_taken a b e f bytes behind written x was is taken =
-    λ rest.
-    ap (λ s. stage_to_come s (bytes ++ rest)) was
-    ∙ taken rest
-    ∙ sym (ap (λ s. in_front_of written (stage_to_come s (behind ++ rest))) is)
+pub fed_to_the_end :
+    (a b : Run) (bytes left : List ℕ) (old new : Option (List ℕ))
+    → FedUpTo a bytes b left old new
+    → left ≡ []
+    → Fed a bytes b old new
+fed_to_the_end a b bytes left old new f none =
+    record {
+      records = f.records;
+      answer = Ok tt;
+      taken = λ rest. f.goes_on rest ∙ ap (λ l. in_front_of f.records (to_come b (l ++ rest))) none;
+      grown = subst (Appends old new) (sym (append-nil f.records)) f.grown;
+    }
 
--- and one that is refused behind them
-pub refusal_taken :
-    (a b : Run) (e f : EventsOf) (bytes behind written : List ℕ) (fault : RunFault)
-    → a.stage ≡ Events e
-    → b.stage ≡ Over
-    → FrontTaken e bytes written f behind (Err fault)
-    → RunTaken a bytes written b behind (Err fault)
-refusal_taken a b e f bytes behind written fault was is taken =
-    (λ rest. ap (λ s. stage_to_come s (bytes ++ rest)) was ∙ taken rest, λ rest. ap (λ s. stage_to_come s rest) is)
+pub where_ok : {T E P Q : Type 0} (r : Result T E) → (P → Q) → OnOk r P → OnOk r Q
+where_ok (Ok x) f p = f p
+where_ok (Err e) f p = tt
 
--- the first byte, and those behind it
-pub front_one : (xs : List ℕ) → 1 ≤ length xs → xs ≡ get_or xs 0 0 ∷ take (length xs - 1) (drop 1 xs)
-front_one [] h = absurd (omega (arith, h))
-front_one (x ∷ xs) h =
-    let e : length (x ∷ xs) - 1 ≡ length xs = omega arith in
-    ap (λ s. x ∷ s) (sym (ap (λ n. take n xs) e ∙ take-length xs))
+-- the bytes that a run wrote for those that it was fed, and those that it still writes
+pub fed_output :
+    (a b : Run) (bytes rest : List ℕ) (records : List ℕ) (answer : Result Unit RunFault)
+    → RunTaken a bytes records b [] answer
+    → output_to_come a (bytes ++ rest) ≡ (records ++ stop_bytes answer) ++ output_to_come b rest
+fed_output a b bytes rest records (Ok x) taken =
+    ap (λ o. o.written) (taken rest) ∙ sym (ap (λ w. w ++ output_to_come b rest) (append-nil records))
+fed_output a b bytes rest records (Err e) taken =
+    let all = records ++ refusal_bytes (run_number e) in
+    ap (λ o. o.written) (taken.0 rest) ∙ sym (append-nil all) ∙ sym (ap (λ o. all ++ o.written) (taken.1 rest))
 
 pub none_left : (xs : List ℕ) → length xs < 1 → xs ≡ []
 none_left [] h = refl
 none_left (x ∷ xs) h = absurd (omega (arith, h))
-
--- a byte from the front: its answer
-pub byte_gives :
-    (a b : Run) (byte : ℕ) (bytes behind : List ℕ) (answer : Result (Option Record) RunFault)
-    → bytes ≡ byte ∷ behind
-    → ((rest : List ℕ) → to_come a (byte ∷ rest) ≡ answer_outcome answer (to_come b rest))
-    → (rest : List ℕ) → to_come a (bytes ++ rest) ≡ answer_outcome answer (to_come b (behind ++ rest))
-byte_gives a b byte bytes behind answer split gives rest =
-    ap (λ l. to_come a (l ++ rest)) split ∙ gives (behind ++ rest)

@@ -2,11 +2,11 @@
 use Rattle.std.proofs.Common.{◌≡◌, ℕ, List, [], ◌++◌, ◌<◌, length, Some, None, Option, Ok, Err, Result, IfSome, OnOk, take, sym, ap, ◌∙◌, append_assoc, subst}
 use Rattle.std.proofs.lemmas.List.{append-nil}
 use Rattle.std.specs.Io.KnownBytes.{Appends, Consumes, IsAtEnd, Keeps, ReadConsumes}
-use Rattle.runner.specs.Feeding.{Fed, output_to_come}
+use Rattle.runner.specs.Feeding.{Fed, output_to_come, stop_bytes}
 use Rattle.runner.specs.Output.{outcome_of, output_of}
 use Rattle.runner.specs.ToCome.{IsDone, to_come}
 use Rattle.runner.specs.declared.Run.{Run}
-use Rattle.runner.proofs.Feeds.{appends_both, appends_nothing}
+use Rattle.runner.proofs.Feeds.{appends_both, appends_nothing, fed_output}
 
 -- a reader had all, and has what is left; a writer held old, and holds new: what the whole input gives was written, but
 -- for what is still to come
@@ -52,12 +52,13 @@ after_a_chunk None left rest old mid fed new before after bytes g c f k = tt
 after_a_chunk (Some all) None rest old mid fed new before after bytes g c f k = absurd g
 after_a_chunk (Some all) (Some xs) None old mid fed new before after bytes g c f k = absurd c
 after_a_chunk (Some all) (Some xs) (Some ys) old mid fed new before after bytes g c f k = (
-  g.0 ++ f.written,
-  kept_appends old fed new (g.0 ++ f.written) (appends_both old mid fed g.0 f.written g.1 f.grown) k,
+  g.0 ++ (f.records ++ stop_bytes f.answer),
+  kept_appends old fed new (g.0 ++ (f.records ++ stop_bytes f.answer))
+      (appends_both old mid fed g.0 (f.records ++ stop_bytes f.answer) g.1 f.grown) k,
   g.2
       ∙ ap (λ left. g.0 ++ output_to_come before left) c
-      ∙ ap (λ s. g.0 ++ s) (f.whatever_follows ys)
-      ∙ sym (append_assoc g.0 f.written (output_to_come after ys)),
+      ∙ ap (λ s. g.0 ++ s) (fed_output before after bytes ys f.records f.answer f.taken)
+      ∙ sym (append_assoc g.0 (f.records ++ stop_bytes f.answer) (output_to_come after ys)),
 )
 
 -- the run has stopped

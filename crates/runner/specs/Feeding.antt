@@ -26,16 +26,10 @@ RunTaken before bytes records after behind (Err e) =
     ((rest : List ℕ) → to_come before (bytes ++ rest) ≡ in_front_of records (refused_by e))
     × IsDone after
 
--- A run before was fed bytes but for those that are left, which leaves it as after, and an output
--- grew by what was written: whatever follows, what was still to be written is that, and then what is
--- still to be written.
-pub record FedUpTo (before : Run) (bytes : List ℕ) (after : Run) (left : List ℕ) (old new : Option (List ℕ)) : Type 0 where
-  pub written : List ℕ
-  pub grown : Appends old new written
-  pub whatever_follows :
-      (rest : List ℕ)
-      → output_to_come before (bytes ++ rest) ≡ written ++ output_to_come after (left ++ rest)
-
--- it was fed all of them
-abbrev pub Fed : Run → List ℕ → Run → Option (List ℕ) → Option (List ℕ) → Type 0
-Fed before bytes after old new = FedUpTo before bytes after [] old new
+-- Bytes were fed to a run, and an output grew by what they gave: these records, and then the refusal,
+-- if the run is refused.
+pub record Fed (before : Run) (bytes : List ℕ) (after : Run) (old new : Option (List ℕ)) : Type 0 where
+  pub records : List ℕ
+  pub answer : Result Unit RunFault
+  pub taken : RunTaken before bytes records after [] answer
+  pub grown : Appends old new (records ++ stop_bytes answer)

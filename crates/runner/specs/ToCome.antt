@@ -1,8 +1,9 @@
 -- What is still to come of a run, if this is the rest of its input.
-use Rattle.std.specs.Prelude.{◌≡◌, ℕ, ◌⊎◌, List, ◌++◌, Ok, Err, Result, Option}
+use Rattle.std.specs.Prelude.{◌≡◌, ℕ, ◌+◌, ◌⊎◌, List, [], ◌∷◌, ◌++◌, length, Ok, Err, Result, Option}
 use Rattle.fault.specs.declared.CreationFault.{CreationFault}
 use Rattle.fault.specs.declared.RunFault.{RunFault}
 use Rattle.fault.specs.declared.RunFault.TheVariants.{Creation}
+use Rattle.octets.specs.BigEndian.{told_length}
 use Rattle.record.specs.declared.Record.{Record}
 use Rattle.runner.specs.EventsView.{bytes_of, events_to_come}
 use Rattle.runner.specs.Output.{RunOutcome, cut_event, cut_table, in_front_of, nothing_more, outcome_of, refused_by}
@@ -28,6 +29,20 @@ IsDone r = (rest : List ℕ) → to_come r rest ≡ nothing_more
 abbrev pub StageBehind : List ℕ → Result Stage CreationFault → Type 0
 StageBehind b (Ok s) = (rest : List ℕ) → outcome_of (b ++ rest) ≡ stage_to_come s rest
 StageBehind b (Err e) = (rest : List ℕ) → outcome_of (b ++ rest) ≡ refused_by (Creation e)
+
+-- this byte, after the bytes b, is the last of a table
+abbrev pub IsLastByte : List ℕ → ℕ → Type 0
+IsLastByte b byte = length (b ++ byte ∷ []) ≡ told_length (b ++ byte ∷ []) + 2
+
+-- a byte at which a run may be refused: within its table only the last one
+abbrev pub StageMayRefuse : Stage → ℕ → Type 0
+StageMayRefuse (Table t) byte = IsLastByte t.bytes.items byte
+StageMayRefuse (LongTable t) byte = t.left ≡ 1
+StageMayRefuse (Events e) byte = Unit {0}
+StageMayRefuse Over byte = ⊥
+
+abbrev pub MayRefuse : Run → ℕ → Type 0
+MayRefuse r byte = StageMayRefuse r.stage byte
 
 -- what an answer to a byte gives, in front of what is to come after it; nothing comes after a refusal
 abbrev pub answer_outcome : Result (Option Record) RunFault → RunOutcome → RunOutcome

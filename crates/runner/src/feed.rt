@@ -90,7 +90,9 @@ impl Run {
             let mut records = Records::new();
             let (answer, behind) = self.take(rest, &mut records);
             output.write_all(&records)?;
-            write_refusal(answer, output)?;
+            if answer.is_err() {
+                return write_refusal(answer, output);
+            }
             rest = behind;
         }
         Ok(())

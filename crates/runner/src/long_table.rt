@@ -16,7 +16,7 @@ pub(crate) struct LongTable {
 }
 
 impl LongTable {
-    ghost use Rattle.std.specs.Prelude.{◌≡◌, ℕ, ◌<◌, List, ◌∷◌, ◌++◌};
+    ghost use Rattle.std.specs.Prelude.{◌≡◌, ℕ, ◌<◌, List, ◌∷◌, ◌++◌, IfErr};
     ghost use Rattle.octets.specs.BigEndian.{told_length};
     ghost use Rattle.runner.specs.Output.{outcome_of};
     ghost use Rattle.runner.specs.TableView.{long_to_come, Passed};
@@ -37,7 +37,8 @@ impl LongTable {
 
     /// Ignores a byte, or refuses the table, if that was its last one.
     pub(crate) fn pass(&mut self) -> Result<(), CreationFault>
-        ensures { (byte : ℕ) (rest : List ℕ) → Passed self.old self.new (byte ∷ rest) rest result }
+        ensures passed { (byte : ℕ) (rest : List ℕ) → Passed self.old self.new (byte ∷ rest) rest result }
+        ensures whole { IfErr result (λ _. self.old.left ≡ 1) }
     {
         if self.left == 1 {
             return Err(self.fault.into());

@@ -31,12 +31,13 @@ impl Default for PartialTable {
 }
 
 impl PartialTable {
-    ghost use Rattle.std.specs.Prelude.{[], ◌∷◌, ◌++◌};
-    ghost use Rattle.runner.specs.ToCome.{StageBehind};
+    ghost use Rattle.std.specs.Prelude.{[], ◌∷◌, ◌++◌, IfErr};
+    ghost use Rattle.runner.specs.ToCome.{IsLastByte, StageBehind};
 
     /// The stage after one more byte.
     pub(crate) fn with(self, byte: u8) -> Result<Stage, CreationFault>
-        ensures { StageBehind (self.bytes.items ++ byte ∷ []) result }
+        ensures behind { StageBehind (self.bytes.items ++ byte ∷ []) result }
+        ensures whole { IfErr result (λ _. IsLastByte self.bytes.items byte) }
     {
         let mut bytes = self.bytes;
         bytes.push(byte);

@@ -1,6 +1,6 @@
 ghost use Rattle.std.specs.Prelude.{◌≡◌, ℕ, List, ◌∷◌, IfErr};
 ghost use Rattle.runner.specs.EventsView.{Gives};
-ghost use Rattle.runner.specs.ToCome.{IsDone, answer_outcome, to_come};
+ghost use Rattle.runner.specs.ToCome.{IsDone, MayRefuse, answer_outcome, to_come};
 
 use crate::Run;
 use crate::stage::Stage;
@@ -15,7 +15,8 @@ impl Run {
     #[cold]
     #[inline(never)]
     fn advance_outside_events(&mut self, byte: u8) -> Result<Option<Record>, RunFault>
-        ensures { Gives (λ rest. to_come self.old (byte ∷ rest)) (to_come self.new) result }
+        ensures gives { Gives (λ rest. to_come self.old (byte ∷ rest)) (to_come self.new) result }
+        ensures in_time { IfErr result (λ _. MayRefuse self.old byte) }
     {
         match &mut self.stage {
             Stage::Table(table) => {
@@ -33,7 +34,8 @@ impl Run {
 
     /// Takes a byte as `push` does, but does not stop at a refusal.
     fn advance(&mut self, byte: u8) -> Result<Option<Record>, RunFault>
-        ensures { Gives (λ rest. to_come self.old (byte ∷ rest)) (to_come self.new) result }
+        ensures gives { Gives (λ rest. to_come self.old (byte ∷ rest)) (to_come self.new) result }
+        ensures in_time { IfErr result (λ _. MayRefuse self.old byte) }
     {
         match &mut self.stage {
             Stage::Events(events) => events.push(byte),
@@ -46,6 +48,7 @@ impl Run {
     pub fn push(&mut self, byte: u8) -> Result<Option<Record>, RunFault>
         ensures gives { (rest : List ℕ) →
             to_come self.old (byte ∷ rest) ≡ answer_outcome result (to_come self.new rest) }
+        ensures in_time { IfErr result (λ _. MayRefuse self.old byte) }
         ensures stops { IfErr result (λ _. IsDone self.new) }
     {
         let answer = self.advance(byte);

@@ -21,7 +21,7 @@ pub(crate) enum Stage {
     Over,
 }
 
-ghost use Rattle.std.specs.Prelude.{◌≡◌, ◌+◌, ◌<◌, ◌≤◌, length};
+ghost use Rattle.std.specs.Prelude.{◌≡◌, ◌+◌, ◌<◌, ◌≤◌, IfErr, length};
 ghost use Rattle.octets.specs.BigEndian.{told_length};
 ghost use Rattle.runner.specs.ToCome.{StageBehind};
 
@@ -43,7 +43,8 @@ impl Stage {
     pub(crate) fn behind(table: ArrayVec<u8, MOST_BYTES>) -> Result<Stage, CreationFault>
         requires begun { length table.items ≤ told_length table.items + 2 }
         requires short { 68 < told_length table.items → length table.items ≤ 6 }
-        ensures { StageBehind table.items result }
+        ensures behind { StageBehind table.items result }
+        ensures whole { IfErr result (λ _. length table.items ≡ told_length table.items + 2) }
     {
         let whole = whole_bytes(&table);
         if table.len() == whole {

@@ -1,5 +1,5 @@
 use Rattle.std.proofs.Common.{length}
-use Rattle.runner.specs.Feeding.{FedUpTo}
+use Rattle.runner.proofs.Feeds.{FedUpTo}
 use Rattle.runner.proofs.Run.feed.Given as goal
 
 abbrev pub invariant-loop-rest : goal.invariant-loop-rest

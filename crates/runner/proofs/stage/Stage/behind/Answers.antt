@@ -9,8 +9,8 @@ use Rattle.runner.specs.ToCome.{StageBehind}
 use Rattle.runner.proofs.Tables.{refused_after}
 use Rattle.runner.proofs.stage.Stage.behind.Goals as goal
 
-pub returns-in_err-of : goal.returns-in_err-of
-returns-in_err-of c =
+pub returns-in_err-of-clause-behind : goal.returns-in_err-of-clause-behind
+returns-in_err-of-clause-behind c =
     let p = err_from_is_err_and c.from_residual.result c.from_residual.ensures.1 in
     let b = c.args.table.items in
     let whole : length b ≡ told_length b + 2 =
@@ -21,8 +21,8 @@ returns-in_err-of c =
     ∙ ap (λ e. Some e) (sym p.2) in
     subst (StageBehind b) (sym p.1) (λ rest. refused_after b rest p.0 whole refused)
 
-pub returns : goal.returns
-returns c =
+pub returns-clause-behind : goal.returns-clause-behind
+returns-clause-behind c =
     let b = c.args.table.items in
     let told : c.whole_bytes-whole.result ≡ told_length b + 2 = c.whole_bytes-whole.ensures ∙ ap (λ xs. told_length xs + 2) c.deref.ensures.0 in
     let long = c.if-whole-gt-MOST_BYTES.true in
