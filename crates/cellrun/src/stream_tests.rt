@@ -30,8 +30,10 @@ fn error_kind(answer: io::Result<()>) -> Result<ErrorKind, Fail> {
 fn input_that_falters_and_fails(rt: HostRuntime) -> Result<(), Fail> {
     let mut output = Vec::new(rt.alloc());
     let pieces: [&[u8]; 4] = [&TABLE[..3], &TABLE[3..], &PHASE[..1], &PHASE[1..]];
-    let answer = run(&mut Pieces::new(&pieces), &mut output);
+    let mut input = Pieces::new(&pieces);
+    let answer = run(&mut input, &mut output);
     assert_eq!(rt; error_kind(answer)?, ErrorKind::TimedOut);
+    assert_eq!(rt; input.reads, 10);
     let record = [0x00, 0x0a, 0x01, 0xff, 0xff, 0x00, 0x00, 0x01, 0, 0, 0, 0];
     assert_eq!(rt; output.as_slice(), record.as_slice());
     Ok(())
@@ -145,8 +147,10 @@ fn a_refusal_is_shown_at_once(rt: HostRuntime) -> Result<(), Fail> {
 fn flush_that_fails(rt: HostRuntime) -> Result<(), Fail> {
     let pieces: [&[u8]; 3] = [&TABLE, &PHASE, &[]];
     for flushes in 0..3 {
-        let answer = run(&mut Pieces::new(&pieces), &mut Stuck { flushes });
+        let mut input = Pieces::new(&pieces);
+        let answer = run(&mut input, &mut Stuck { flushes });
         assert_eq!(rt; error_kind(answer)?, ErrorKind::BrokenPipe);
+        assert_eq!(rt; input.reads, 2 + 2 * flushes);
     }
     run(&mut Pieces::new(&pieces), &mut Stuck { flushes: 3 })?;
     Ok(())

@@ -11,7 +11,7 @@ use std::io;
 use std::io::Write;
 use std::test::Fail;
 
-/// What a run writes for an input that it is fed in pieces of so many bytes.
+/// What a run writes for an input that it is fed in pieces of this size.
 fn fed_in_pieces(alloc: Global, input: &[u8], size: usize) -> io::Result<Vec<u8>>
     requires { 0 < size }
 {

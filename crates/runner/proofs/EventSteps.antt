@@ -17,7 +17,7 @@ use Rattle.record.specs.Layout.{record_bytes}
 use Rattle.record.specs.declared.Record.{Record}
 use Rattle.table_reference.specs.View.{own}
 use Rattle.runner.specs.EventsView.{Gives, Taken, bytes_of, done_by, events_to_come, going_on, held}
-use Rattle.runner.specs.Output.{RunOutcome, arrival_done, clean_by, event_done, events, in_front_of, or_stopped, outcome_bytes, phase_done, refused_by, slot_done, stopped, unknown_event, cut_event, cut_off}
+use Rattle.runner.specs.Output.{RunOutcome, arrival_done, clean_by, event_done, events, in_front_of, or_stopped, outcome_bytes, phase_done, refused_by, slot_done, stopped, unknown_event, cut_event, partial_event_fault}
 use Rattle.runner.specs.Parsing.{BytesOf, begun_bytes, none_begun}
 use Rattle.runner.specs.declared.begun.Begun.{Begun}
 use Rattle.runner.specs.declared.begun.Begun.TheVariants.{Nothing, Arrival as ArrivalBegun, ArrivalFor, Phase as PhaseBegun, PhaseWith}
@@ -110,7 +110,7 @@ no_event s e rest no_arrival no_phase = go rest
     y : (e == 0x53) ≡ false
     y = grind (arith, nat_tests)
 
-    unknown : cut_off e ≡ unknown_event
+    unknown : partial_event_fault e ≡ unknown_event
     unknown = ap (λ w. cond (w || (e == 0x53)) cut_event unknown_event) x ∙ ap (λ w. cond w cut_event unknown_event) y
 
     go : (more : List ℕ) → events own (Ok s) (e ∷ more) ≡ refused_by unknown_event

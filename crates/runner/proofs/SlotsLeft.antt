@@ -1,4 +1,4 @@
--- What is left of the slots of an input: the end is one of the things that a run may still give, and the last.
+-- What is left of the slots of an input: the end may still give one answer, the last.
 use Rattle.std.proofs.Common.{◌≡◌, ℕ, ◌<◌, List, [], ◌∷◌, ◌++◌, length, Some, Ok, Err, Result, refl, sym, ap, ◌∙◌, arith}
 use Rattle.std.specs.Iterator.{Drains}
 use Rattle.fault.specs.Faults.{run_number}

@@ -9,7 +9,7 @@ use Rattle.fault.specs.declared.LineFault.{LineFault}
 use Rattle.fault.specs.declared.LineFault.TheVariants.{DelayWeight, Header, Weight}
 use Rattle.fault.specs.declared.RunFault.{RunFault}
 use Rattle.fault.specs.declared.RunFault.TheVariants.{Arrival, Creation}
-use Rattle.runner.specs.Output.{cut_event, outcome_of, output_of, refused_by, unknown_event}
+use Rattle.runner.specs.Output.{cut_event, outcome_of, output_of, unknown_event}
 
 -- two flows of weight 1 under round robin, with limits of 2
 abbrev pub two_flows : List ℕ
@@ -49,30 +49,39 @@ of_table e = Creation (Table e)
 -- The faults that refuse runs, beside what was worked out by hand.
 pub record WorkedFaults : Type 0 where
   pub nothing_refused : (outcome_of (two_flows ++ phase 3)).refused ≡ None
-  pub nothing : outcome_of [] ≡ refused_by (of_table (Header (Frame Length)))
+  pub nothing : (outcome_of []).refused ≡ Some (of_table (Header (Frame Length)))
+  -- a length below 4 is none of a table, whatever follows
+  pub no_room_for_a_header :
+      (outcome_of (0 ∷ 3 ∷ 1 ∷ 1 ∷ 0 ∷ phase 0)).refused ≡ Some (of_table (Header (Frame Length)))
   pub other_version :
-      outcome_of (0 ∷ 4 ∷ 2 ∷ 1 ∷ 0 ∷ 0 ∷ []) ≡ refused_by (of_table (Header (Frame Version)))
-  pub other_kind : outcome_of (0 ∷ 4 ∷ 1 ∷ 3 ∷ 0 ∷ 0 ∷ []) ≡ refused_by (of_table (Header Kind))
+      (outcome_of (0 ∷ 4 ∷ 2 ∷ 1 ∷ 0 ∷ 0 ∷ [])).refused ≡ Some (of_table (Header (Frame Version)))
+  pub other_kind :
+      (outcome_of (0 ∷ 4 ∷ 1 ∷ 3 ∷ 0 ∷ 0 ∷ [])).refused ≡ Some (of_table (Header Kind))
   pub other_lookahead :
-      outcome_of (0 ∷ 4 ∷ 1 ∷ 1 ∷ 1 ∷ 0 ∷ []) ≡ refused_by (of_table (Header Lookahead))
-  pub no_flow : outcome_of (0 ∷ 4 ∷ 1 ∷ 1 ∷ 0 ∷ 0 ∷ []) ≡ refused_by (of_table (Header FlowCount))
+      (outcome_of (0 ∷ 4 ∷ 1 ∷ 1 ∷ 1 ∷ 0 ∷ [])).refused ≡ Some (of_table (Header Lookahead))
+  pub no_flow :
+      (outcome_of (0 ∷ 4 ∷ 1 ∷ 1 ∷ 0 ∷ 0 ∷ [])).refused ≡ Some (of_table (Header FlowCount))
   -- the second of two flows has no weight, or a delay weight under round robin
   pub no_weight :
-      outcome_of (take 10 two_flows ++ (0 ∷ 0 ∷ 2 ∷ 2 ∷ [])) ≡ refused_by (of_table (Weight 1))
+      (outcome_of (take 10 two_flows ++ (0 ∷ 0 ∷ 2 ∷ 2 ∷ []))).refused ≡ Some (of_table (Weight 1))
   pub some_delay_weight :
-      outcome_of (take 10 two_flows ++ (1 ∷ 1 ∷ 2 ∷ 2 ∷ [])) ≡ refused_by (of_table (DelayWeight 1))
+      (outcome_of (take 10 two_flows ++ (1 ∷ 1 ∷ 2 ∷ 2 ∷ []))).refused
+      ≡ Some (of_table (DelayWeight 1))
   -- a long table is refused by what it says, and one that is cut short by its length
+  pub long_table :
+      (outcome_of (0 ∷ 69 ∷ 1 ∷ 1 ∷ 0 ∷ 16 ∷ zeros 65)).refused ≡ Some (of_table (Header FlowCount))
   pub long_table_of_other_kind :
-      outcome_of (0 ∷ 69 ∷ 1 ∷ 3 ∷ 0 ∷ 0 ∷ zeros 65) ≡ refused_by (of_table (Header Kind))
+      (outcome_of (0 ∷ 69 ∷ 1 ∷ 3 ∷ 0 ∷ 0 ∷ zeros 65)).refused ≡ Some (of_table (Header Kind))
   pub long_table_cut :
-      outcome_of (0 ∷ 69 ∷ 1 ∷ 3 ∷ 0 ∷ 0 ∷ zeros 64) ≡ refused_by (of_table (Header (Frame Length)))
-  pub no_such_flow : outcome_of (two_flows ++ arrival 2 1) ≡ refused_by (Arrival NoSuchFlow)
+      (outcome_of (0 ∷ 69 ∷ 1 ∷ 3 ∷ 0 ∷ 0 ∷ zeros 64)).refused
+      ≡ Some (of_table (Header (Frame Length)))
+  pub no_such_flow : (outcome_of (two_flows ++ arrival 2 1)).refused ≡ Some (Arrival NoSuchFlow)
   -- an event is unknown by its first byte, even if the input ends there; one that is cut short begins
   -- like an event
-  pub no_event : outcome_of (two_flows ++ (0x42 ∷ [])) ≡ refused_by unknown_event
+  pub no_event : (outcome_of (two_flows ++ (0x42 ∷ []))).refused ≡ Some unknown_event
   pub no_event_in_front :
-      outcome_of (two_flows ++ (0x42 ∷ 0 ∷ 0 ∷ 0 ∷ [])) ≡ refused_by unknown_event
-  pub cut_arrival : outcome_of (two_flows ++ (0x41 ∷ 1 ∷ [])) ≡ refused_by cut_event
+      (outcome_of (two_flows ++ (0x42 ∷ 0 ∷ 0 ∷ 0 ∷ []))).refused ≡ Some unknown_event
+  pub cut_arrival : (outcome_of (two_flows ++ (0x41 ∷ 1 ∷ []))).refused ≡ Some cut_event
   pub cut_phase : (outcome_of (two_flows ++ phase 3 ++ (0x53 ∷ []))).refused ≡ Some cut_event
 
 pub record WorkedRuns : Type 0 where

@@ -94,9 +94,9 @@ cut_event = Event CutShort
 abbrev pub unknown_event : RunFault
 unknown_event = Event Unknown
 
--- the fault of an input that ends within an event, by the event's first byte
-abbrev pub cut_off : ℕ → RunFault
-cut_off e = if e == 0x41 || e == 0x53 then cut_event else unknown_event
+-- the fault of an event that is not whole when the input ends, by its first byte
+abbrev pub partial_event_fault : ℕ → RunFault
+partial_event_fault e = if e == 0x41 || e == 0x53 then cut_event else unknown_event
 
 -- bit i of the mask is set for flow i of n; other bits are ignored
 abbrev pub clean_by : ℕ → ℕ → ℕ → Bool
@@ -149,12 +149,12 @@ module _ (M : Meaning) where
       else (if e == 0x53 then phase_done s (be_number (a ∷ b ∷ [])) else stopped unknown_event)
 
   -- One event after the other, until the run stops: nothing is read after a refusal. An event that the
-  -- end of the input cuts short is none.
+  -- end of the input cuts short is refused.
   abbrev pub events : Result (State M) RunFault → List ℕ → RunOutcome
   events (Err e) input = record { written = []; refused = Some e }
   events (Ok s) [] = nothing_more
-  events (Ok s) (e ∷ []) = refused_by (cut_off e)
-  events (Ok s) (e ∷ a ∷ []) = refused_by (cut_off e)
+  events (Ok s) (e ∷ []) = refused_by (partial_event_fault e)
+  events (Ok s) (e ∷ a ∷ []) = refused_by (partial_event_fault e)
   events (Ok s) (e ∷ a ∷ b ∷ rest) =
       in_front_of (event_done s e a b).written (events (event_done s e a b).after rest)
 

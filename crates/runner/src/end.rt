@@ -6,12 +6,14 @@ use crate::stage::Stage;
 use fault::{CreationFault, EventFault, FrameFault, HeaderFault, LineFault, RunFault};
 
 impl Run {
-    /// Why the run is refused if the input ends here, within a table or an event.
-    fn cut(&self) -> Result<(), RunFault>
-        ensures exact { to_come self.now [] ≡ end_outcome result }
+    /// Ends the input here: refuses a run that is within its table or an event. The run has stopped
+    /// then.
+    pub fn end(&mut self) -> Result<(), RunFault>
+        ensures exact { to_come self.old [] ≡ end_outcome result }
         ensures cut { IfErr result IsCut }
+        ensures stops { IsDone self.new }
     {
-        match &self.stage {
+        let end = match &self.stage {
             Stage::Table(_) | Stage::LongTable(_) => {
                 let fault = LineFault::Header(HeaderFault::Frame(FrameFault::Length));
                 Err(RunFault::Creation(CreationFault::Table(fault)))
@@ -19,16 +21,7 @@ impl Run {
             Stage::Events(events) if events.between() => Ok(()),
             Stage::Events(_) => Err(RunFault::Event(EventFault::CutShort)),
             Stage::Over => Ok(()),
-        }
-    }
-
-    /// Ends the input here: refuses a run that is within its table or an event. The run has stopped then.
-    pub fn end(&mut self) -> Result<(), RunFault>
-        ensures exact { to_come self.old [] ≡ end_outcome result }
-        ensures cut { IfErr result IsCut }
-        ensures stops { IsDone self.new }
-    {
-        let end = self.cut();
+        };
         self.stage = Stage::Over;
         end
     }

@@ -37,7 +37,8 @@ impl LongTable {
 
     /// Ignores a byte, or refuses the table, if that was its last one.
     pub(crate) fn pass(&mut self) -> Result<(), CreationFault>
-        ensures passed { (byte : ℕ) (rest : List ℕ) → Passed self.old self.new (byte ∷ rest) rest result }
+        ensures passed { (byte : ℕ) (rest : List ℕ) →
+            Passed self.old self.new (byte ∷ rest) rest result }
         ensures whole { IfErr result (λ _. self.old.left ≡ 1) }
     {
         if self.left == 1 {
