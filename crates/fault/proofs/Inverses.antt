@@ -1,17 +1,11 @@
--- A fault is that of its own refusal.
+-- A table's fault is that of its own refusal.
 use Rattle.std.proofs.Common.{◌≡◌, ℕ, ◌+◌, ◌-◌, ◌*◌, ◌/◌, ◌%◌, ◌==◌, cond, true, false, refl, ap, ◌∙◌, arith}
 use Rattle.std.proofs.lemmas.Bool.Decides.{nat_tests}
-use Rattle.fault.specs.Faults.{arrival_fault, arrival_number, line_fault, line_told}
-use Rattle.fault.specs.declared.ArrivalFault.{ArrivalFault}
-use Rattle.fault.specs.declared.ArrivalFault.TheVariants.{NoSuchFlow, TooMany}
+use Rattle.fault.specs.Faults.{line_fault, line_told}
 use Rattle.fault.specs.declared.FrameFault.TheVariants.{Length, Version}
 use Rattle.fault.specs.declared.HeaderFault.TheVariants.{Frame, Kind, Lookahead, FlowCount}
 use Rattle.fault.specs.declared.LineFault.{LineFault}
 use Rattle.fault.specs.declared.LineFault.TheVariants.{Header, Weight, DelayWeight}
-
-pub arrival_fault-arrival_number : (e : ArrivalFault) → arrival_fault (arrival_number e) ≡ e
-arrival_fault-arrival_number NoSuchFlow = refl
-arrival_fault-arrival_number TooMany = refl
 
 -- the flow of a line that has this byte
 flow_at : (f : ℕ) → (6 + 4 * f) / 4 - 1 ≡ f

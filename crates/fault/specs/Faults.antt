@@ -86,11 +86,11 @@ run_number (Opening e) = opening_number e
 run_number (Event e) = event_number e
 
 -- the refusal of a table, where that is what refuses a run
-abbrev pub refused_table : RunFault → Option Refusal
-refused_table (Creation e) = Some (creation_told e)
-refused_table (Arrival e) = None
-refused_table (Opening e) = None
-refused_table (Event e) = None
+abbrev pub refusal_of_table : RunFault → Option Refusal
+refusal_of_table (Creation e) = Some (creation_told e)
+refusal_of_table (Arrival e) = None
+refusal_of_table (Opening e) = None
+refusal_of_table (Event e) = None
 
 -- ## The other way round: the fault of a refusal
 
@@ -98,7 +98,8 @@ refused_table (Event e) = None
 abbrev pub arrival_fault : ℕ → ArrivalFault
 arrival_fault n = if n == 6 then NoFlowToArriveFor else TooMany
 
--- the fault of a table with this number, at this byte: the line of flow f begins at byte 6 + 4 * f, with its weight
+-- the fault of a table with this number, at this byte: the line of flow f begins at byte 6 + 4 * f,
+-- with its weight
 abbrev pub line_fault : Refusal → LineFault
 line_fault r =
     if r.number == 1

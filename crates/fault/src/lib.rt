@@ -14,7 +14,7 @@ ghost use Rattle.fault.specs.Faults.{
   line_told,
   opening_number,
   record_number,
-  refused_table,
+  refusal_of_table,
   run_number,
   write_number,
 };
@@ -47,8 +47,8 @@ impl fmt::Display for Layer {
     }
 }
 
-/// The external form of a table's fault: the number of the refusal, the first wrong byte (from 0, the length among them)
-/// and the layer.
+/// The external form of a table's fault: the number of the refusal, the first wrong byte (from 0, the
+/// length among them) and the layer.
 #[derive(Clone, Copy, PartialEq, Eq, Debug)]
 pub struct Refusal {
     /// The number of the refusal.
@@ -428,9 +428,11 @@ impl RunFault {
             RunFault::Event(fault) => fault.number(),
         }
     }
-    /// Number, byte and layer of a refused table; none for a refusal of anything else, which has a number alone.
-    pub fn table_refusal(self) -> Option<Refusal>
-        ensures { result ≡ refused_table self }
+
+    /// Number, byte and layer of a refused table; none for a refusal of anything else, which has a number
+    /// alone.
+    pub fn refusal_of_table(self) -> Option<Refusal>
+        ensures { result ≡ refusal_of_table self }
     {
         match self {
             RunFault::Creation(fault) => Some(fault.refusal()),

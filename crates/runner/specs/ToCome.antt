@@ -44,6 +44,16 @@ StageMayRefuse Over byte = ⊥
 abbrev pub MayRefuse : Run → ℕ → Type 0
 MayRefuse r byte = StageMayRefuse r.stage byte
 
+-- the byte is the last of the run's table
+abbrev pub StageTableEnds : Stage → ℕ → Type 0
+StageTableEnds (Table t) byte = IsLastByte t.bytes.items byte
+StageTableEnds (LongTable t) byte = t.left ≡ 1
+StageTableEnds (Events e) byte = ⊥
+StageTableEnds Over byte = ⊥
+
+abbrev pub TableEnds : Run → ℕ → Type 0
+TableEnds r byte = StageTableEnds r.stage byte
+
 -- what an answer to a byte gives, in front of what is to come after it; nothing comes after a refusal
 abbrev pub answer_outcome : Result (Option Record) RunFault → RunOutcome → RunOutcome
 answer_outcome (Ok r) after = in_front_of (bytes_of r) after

@@ -16,7 +16,7 @@ pub(crate) struct LongTable {
 }
 
 impl LongTable {
-    ghost use Rattle.std.specs.Prelude.{◌≡◌, ℕ, ◌<◌, List, ◌∷◌, ◌++◌, IfErr};
+    ghost use Rattle.std.specs.Prelude.{◌≡◌, ℕ, ◌<◌, List, ◌∷◌, ◌++◌, ◌≢◌, IfErr, IfOk};
     ghost use Rattle.octets.specs.BigEndian.{told_length};
     ghost use Rattle.runner.specs.Output.{outcome_of};
     ghost use Rattle.runner.specs.TableView.{long_to_come, Passed};
@@ -40,6 +40,7 @@ impl LongTable {
         ensures passed { (byte : ℕ) (rest : List ℕ) →
             Passed self.old self.new (byte ∷ rest) rest result }
         ensures whole { IfErr result (λ _. self.old.left ≡ 1) }
+        ensures more { IfOk result (λ _. self.old.left ≢ 1) }
     {
         if self.left == 1 {
             return Err(self.fault.into());

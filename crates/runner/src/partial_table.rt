@@ -31,13 +31,16 @@ impl Default for PartialTable {
 }
 
 impl PartialTable {
-    ghost use Rattle.std.specs.Prelude.{[], ◌∷◌, ◌++◌, IfErr};
-    ghost use Rattle.runner.specs.ToCome.{IsLastByte, StageBehind};
+    ghost use Rattle.std.specs.Prelude.{[], ◌∷◌, ◌++◌, ◌≡◌, IfErr, IfOk};
+    ghost use Rattle.runner.specs.Output.{nothing_more};
+    ghost use Rattle.runner.specs.ToCome.{IsLastByte, StageBehind, stage_to_come};
 
     /// The stage after one more byte.
     pub(crate) fn with(self, byte: u8) -> Result<Stage, CreationFault>
         ensures behind { StageBehind (self.bytes.items ++ byte ∷ []) result }
         ensures whole { IfErr result (λ _. IsLastByte self.bytes.items byte) }
+        ensures ready { IfOk result (λ stage.
+            IsLastByte self.bytes.items byte → stage_to_come stage [] ≡ nothing_more) }
     {
         let mut bytes = self.bytes;
         bytes.push(byte);

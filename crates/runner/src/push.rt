@@ -1,6 +1,7 @@
-ghost use Rattle.std.specs.Prelude.{◌≡◌, ℕ, List, ◌∷◌, IfErr};
+ghost use Rattle.std.specs.Prelude.{◌≡◌, ℕ, List, [], ◌∷◌, IfErr, IfOk};
 ghost use Rattle.runner.specs.EventsView.{Gives};
-ghost use Rattle.runner.specs.ToCome.{IsDone, MayRefuse, answer_outcome, to_come};
+ghost use Rattle.runner.specs.Output.{nothing_more};
+ghost use Rattle.runner.specs.ToCome.{IsDone, MayRefuse, TableEnds, answer_outcome, to_come};
 
 use crate::Run;
 use crate::stage::Stage;
@@ -17,6 +18,8 @@ impl Run {
     fn advance_outside_events(&mut self, byte: u8) -> Result<Option<Record>, RunFault>
         ensures gives { Gives (λ rest. to_come self.old (byte ∷ rest)) (to_come self.new) result }
         ensures in_time { IfErr result (λ _. MayRefuse self.old byte) }
+        ensures at_once { IfOk result (λ _.
+            TableEnds self.old byte → to_come self.new [] ≡ nothing_more) }
     {
         match &mut self.stage {
             Stage::Table(table) => {
@@ -36,6 +39,8 @@ impl Run {
     fn advance(&mut self, byte: u8) -> Result<Option<Record>, RunFault>
         ensures gives { Gives (λ rest. to_come self.old (byte ∷ rest)) (to_come self.new) result }
         ensures in_time { IfErr result (λ _. MayRefuse self.old byte) }
+        ensures at_once { IfOk result (λ _.
+            TableEnds self.old byte → to_come self.new [] ≡ nothing_more) }
     {
         match &mut self.stage {
             Stage::Events(events) => events.push(byte),
@@ -49,6 +54,8 @@ impl Run {
         ensures gives { (rest : List ℕ) →
             to_come self.old (byte ∷ rest) ≡ answer_outcome result (to_come self.new rest) }
         ensures in_time { IfErr result (λ _. MayRefuse self.old byte) }
+        ensures at_once { IfOk result (λ _.
+            TableEnds self.old byte → to_come self.new [] ≡ nothing_more) }
         ensures stops { IfErr result (λ _. IsDone self.new) }
     {
         let answer = self.advance(byte);

@@ -21,9 +21,10 @@ pub(crate) enum Stage {
     Over,
 }
 
-ghost use Rattle.std.specs.Prelude.{◌≡◌, ◌+◌, ◌<◌, ◌≤◌, IfErr, length};
+ghost use Rattle.std.specs.Prelude.{◌≡◌, ◌+◌, ◌<◌, ◌≤◌, [], IfErr, IfOk, length};
 ghost use Rattle.octets.specs.BigEndian.{told_length};
-ghost use Rattle.runner.specs.ToCome.{StageBehind};
+ghost use Rattle.runner.specs.Output.{nothing_more};
+ghost use Rattle.runner.specs.ToCome.{StageBehind, stage_to_come};
 
 /// How many bytes the whole table has, by its first two; one that is not there counts as 0.
 fn whole_bytes(table: &[u8]) -> usize
@@ -45,6 +46,8 @@ impl Stage {
         requires short { 68 < told_length table.items → length table.items ≤ 6 }
         ensures behind { StageBehind table.items result }
         ensures whole { IfErr result (λ _. length table.items ≡ told_length table.items + 2) }
+        ensures ready { IfOk result (λ stage.
+            length table.items ≡ told_length table.items + 2 → stage_to_come stage [] ≡ nothing_more) }
     {
         let whole = whole_bytes(&table);
         if table.len() == whole {
