@@ -4,8 +4,8 @@ use std::cell::Cell;
 use std::io;
 use std::io::{ErrorKind, Read, Write};
 
-/// An input that gives a piece at each read, and is interrupted before each one. An empty piece is an
-/// end of the input. Behind the last piece it fails.
+/// An input that gives a piece at each read, and is interrupted before each one. An empty piece is
+/// an end of the input. Behind the last piece it fails.
 #[derive(Drop)]
 pub(crate) struct Pieces<'a> {
     rest: &'a [&'a [u8]],
@@ -40,8 +40,8 @@ impl Read for Pieces<'_> {
     }
 }
 
-/// An input that gives a piece at each read, and then ends. It keeps how much of the output was shown
-/// at each read.
+/// An input that gives a piece at each read, and then ends. It keeps how much of the output was
+/// shown at each read.
 #[derive(Drop)]
 pub(crate) struct Watching<'a> {
     pub(crate) rest: &'a [&'a [u8]],

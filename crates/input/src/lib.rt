@@ -20,8 +20,8 @@ fn read_front(front: &[u8]) -> Result<Table, LineFault>
     Table::read(front)
 }
 
-/// Reads a table from all that is left of an input, or returns its fault. Of a long input it reads no more than decides.
-/// If the input fails, or memory runs out, it fails.
+/// Reads a table from all that is left of an input, or returns its fault. Of a long input it reads
+/// no more than decides. If the input fails, or memory runs out, it fails.
 pub fn read_table<R: Read + Drop>(alloc: Global, input: R) -> io::Result<Result<Table, LineFault>>
     ensures { IfOk result (λ table. IfSome (R.remaining input) (λ bytes. TableRead bytes table)) }
 {

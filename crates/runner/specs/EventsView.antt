@@ -53,8 +53,8 @@ abbrev pub Taken : Events → Event → Events → Result (Option Record) RunFau
 Taken old event new (Ok r) = (done_by (held old) event ≡ going_on (bytes_of r) (held new)) × (new.begun ≡ old.begun)
 Taken old event new (Err e) = done_by (held old) event ≡ stopped own e
 
--- What is to come before an answer is what the answer gives, and then what is to come after it. After
--- a refusal nothing is.
+-- What is to come before an answer is what the answer gives, and then what is to come after it.
+-- Nothing is to come after a refusal.
 abbrev pub Gives :
     (List ℕ → RunOutcome) → (List ℕ → RunOutcome) → Result (Option Record) RunFault → Type 0
 Gives before after (Ok r) = (rest : List ℕ) → before rest ≡ in_front_of (bytes_of r) (after rest)

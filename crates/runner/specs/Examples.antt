@@ -76,8 +76,8 @@ pub record WorkedFaults : Type 0 where
       (outcome_of (0 ∷ 69 ∷ 1 ∷ 3 ∷ 0 ∷ 0 ∷ zeros 64)).refused
       ≡ Some (of_table (Header (Frame Length)))
   pub no_such_flow : (outcome_of (two_flows ++ arrival 2 1)).refused ≡ Some (Arrival NoSuchFlow)
-  -- an event is unknown by its first byte, even if the input ends there; one that is cut short begins
-  -- like an event
+  -- an event is unknown by its first byte, even if the input ends there; one that is cut short
+  -- begins like an event
   pub no_event : (outcome_of (two_flows ++ (0x42 ∷ []))).refused ≡ Some unknown_event
   pub no_event_in_front :
       (outcome_of (two_flows ++ (0x42 ∷ 0 ∷ 0 ∷ 0 ∷ []))).refused ≡ Some unknown_event

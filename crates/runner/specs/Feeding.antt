@@ -16,8 +16,8 @@ abbrev pub stop_bytes : Result Unit RunFault → List ℕ
 stop_bytes (Ok _) = []
 stop_bytes (Err e) = refusal_bytes (run_number e)
 
--- Bytes were taken off the front of the bytes, which gave these records, and others are left; or the
--- run was refused, after these records.
+-- Bytes were taken off the front of the bytes, which gave these records, and others are left; or
+-- the run was refused, after these records.
 abbrev pub RunTaken : Run → List ℕ → List ℕ → Run → List ℕ → Result Unit RunFault → Type 0
 RunTaken before bytes records after behind (Ok _) =
     (rest : List ℕ)
@@ -26,9 +26,10 @@ RunTaken before bytes records after behind (Err e) =
     ((rest : List ℕ) → to_come before (bytes ++ rest) ≡ in_front_of records (refused_by e))
     × IsDone after
 
--- Bytes were fed to a run, and an output grew by what they gave: these records, and then the refusal,
--- if the run is refused.
-pub record Fed (before : Run) (bytes : List ℕ) (after : Run) (old new : Option (List ℕ)) : Type 0 where
+-- Bytes were fed to a run, and an output grew by what they gave: these records, and then the
+-- refusal, if the run is refused.
+pub record Fed
+    (before : Run) (bytes : List ℕ) (after : Run) (old new : Option (List ℕ)) : Type 0 where
   pub records : List ℕ
   pub answer : Result Unit RunFault
   pub taken : RunTaken before bytes records after [] answer

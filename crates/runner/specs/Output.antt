@@ -1,5 +1,5 @@
--- The outcome of a whole run, for a whole input: the bytes that it writes, and the fault that refuses
--- it, if one does.
+-- The outcome of a whole run, for a whole input: the bytes that it writes, and the fault that
+-- refuses it, if one does.
 use Rattle.std.specs.Prelude.{ℕ, ◌+◌, Bool, cond, ◌&&◌, ◌||◌, ◌⊎◌, List, [], ◌∷◌, ◌++◌, length, take, drop, Some, None, Ok, Err, Option, Result, ◌==◌, nat_lt, if◌then◌else◌}
 use Rattle.std.specs.Option.{option_map}
 use Rattle.std.proofs.Common.{inl, inr}
@@ -148,8 +148,8 @@ module _ (M : Meaning) where
       then arrival_done s a b
       else (if e == 0x53 then phase_done s (be_number (a ∷ b ∷ [])) else stopped unknown_event)
 
-  -- One event after the other, until the run stops: nothing is read after a refusal. An event that the
-  -- end of the input cuts short is refused.
+  -- One event after the other, until the run stops: nothing is read after a refusal. An event that
+  -- the end of the input cuts short is refused.
   abbrev pub events : Result (State M) RunFault → List ℕ → RunOutcome
   events (Err e) input = record { written = []; refused = Some e }
   events (Ok s) [] = nothing_more

@@ -41,8 +41,8 @@ HaveOutcome s x =
     → Drains NextSlot s answers
     → answers_outcome answers ≡ x
 
--- No more answers than this are left: a byte gives one at most, and the end of the input one more. (A
--- byte counts twice, whatever it does to the stage.)
+-- No more answers than this are left: a byte gives one at most, and the end of the input one more.
+-- (A byte counts twice, whatever it does to the stage.)
 abbrev pub stage_left : Stage → ℕ
 stage_left Over = 0
 stage_left _ = 1

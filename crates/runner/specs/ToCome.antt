@@ -54,7 +54,7 @@ StageTableEnds Over byte = ⊥
 abbrev pub TableEnds : Run → ℕ → Type 0
 TableEnds r byte = StageTableEnds r.stage byte
 
--- what an answer to a byte gives, in front of what is to come after it; nothing comes after a refusal
+-- what an answer to a byte gives, in front of what is to come after it: nothing after a refusal
 abbrev pub answer_outcome : Result (Option Record) RunFault → RunOutcome → RunOutcome
 answer_outcome (Ok r) after = in_front_of (bytes_of r) after
 answer_outcome (Err e) after = refused_by e

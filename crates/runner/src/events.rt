@@ -99,9 +99,9 @@ impl Events {
         self.take(event)
     }
 
-    /// Applies the whole events at the front of the bytes, where the last one is whole, until one is
-    /// refused or there is no room for one more record. Adds their records' bytes; returns the refusal,
-    /// if there is one, and the bytes left.
+    /// Applies the whole events at the front of the bytes, where the last one is whole, until one
+    /// is refused or there is no room for one more record. Adds their records' bytes; returns the
+    /// refusal, if there is one, and the bytes left.
     // Never inlined: its callers hold more, and the loop would be slower among their locals.
     #[inline(never)]
     pub(crate) fn take_front<'a>(

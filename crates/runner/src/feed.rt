@@ -31,15 +31,16 @@ fn write_refusal<W: Write>(answer: Result<(), RunFault>, output: &mut W) -> io::
 }
 
 impl Run {
-    /// Takes one byte from the front of the bytes. Adds the bytes of the record that it gives, if it
-    /// gives one; returns why the run stops, if it does, and the bytes left.
+    /// Takes one byte from the front of the bytes. Adds the bytes of the record that it gives, if
+    /// it gives one; returns why the run stops, if it does, and the bytes left.
     fn take_one<'a>(
         &mut self,
         bytes: &'a [u8],
         records: &mut Records,
     ) -> (Result<(), RunFault>, &'a [u8])
         requires empty { records.old.items ≡ [] }
-        ensures taken { RunTaken self.old bytes.now records.new.items self.new result.1.now result.0 }
+        ensures taken { RunTaken self.old bytes.now records.new.items
+            self.new result.1.now result.0 }
         ensures moves_on { 0 < length bytes.now → length result.1.now < length bytes.now }
     {
         let [byte, behind @ ..] = bytes else {
@@ -55,16 +56,17 @@ impl Run {
         }
     }
 
-    /// Takes bytes from the front of the bytes: whole events, as many as are taken at once, or else one
-    /// byte. Adds the bytes of the records that they give; returns why the run stops, if it does, and
-    /// the bytes left.
+    /// Takes bytes from the front of the bytes: whole events, as many as are taken at once, or else
+    /// one byte. Adds the bytes of the records that they give; returns why the run stops, if it
+    /// does, and the bytes left.
     pub(crate) fn take<'a>(
         &mut self,
         bytes: &'a [u8],
         records: &mut Records,
     ) -> (Result<(), RunFault>, &'a [u8])
         requires empty { records.old.items ≡ [] }
-        ensures taken { RunTaken self.old bytes.now records.new.items self.new result.1.now result.0 }
+        ensures taken { RunTaken self.old bytes.now records.new.items
+            self.new result.1.now result.0 }
         ensures moves_on { 0 < length bytes.now → length result.1.now < length bytes.now }
     {
         match &mut self.stage {
@@ -98,8 +100,8 @@ impl Run {
         Ok(())
     }
 
-    /// Ends the input, and writes what that gives: a refusal, if the input ends within a table or an
-    /// event.
+    /// Ends the input, and writes what that gives: a refusal, if the input ends within a table or
+    /// an event.
     pub fn finish<W: Write>(mut self, output: &mut W) -> io::Result<()>
         ensures { OnOk result
             (Appends (W.contents output.old) (W.contents output.new) (output_to_come self [])) }

@@ -8,8 +8,8 @@ use fault::CreationFault;
 /// The bytes of the longest table that a flow count makes: that of sixteen flows.
 pub(crate) const MOST_BYTES: usize = 70;
 
-/// The bytes of a table that has not come whole: fewer than its length says, and fewer than a header of
-/// a table that is longer than any flow count makes it.
+/// The bytes of a table that has not come whole: fewer than its length says, and fewer than a
+/// header of a table that is longer than any flow count makes it.
 #[derive(Drop)]
 pub(crate) struct PartialTable {
     pub(crate) bytes: ArrayVec<u8, MOST_BYTES>,

@@ -7,8 +7,8 @@ use crate::Run;
 use fault::RunFault;
 use record::Record;
 
-/// The slots of a whole input that is in memory: the record of each, and then why the run is refused,
-/// if it is.
+/// The slots of a whole input that is in memory: the record of each, and then why the run is
+/// refused, if it is.
 #[derive(Drop)]
 pub struct Slots<'a> {
     run: Run,

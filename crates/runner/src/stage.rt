@@ -39,15 +39,16 @@ fn whole_bytes(table: &[u8]) -> usize
 }
 
 impl Stage {
-    /// The stage after these first bytes of the input: at most the whole table, or only the header of a
-    /// table that is longer than any flow count makes it.
+    /// The stage after these first bytes of the input: at most the whole table, or only the header
+    /// of a table that is longer than any flow count makes it.
     pub(crate) fn behind(table: ArrayVec<u8, MOST_BYTES>) -> Result<Stage, CreationFault>
         requires begun { length table.items ≤ told_length table.items + 2 }
         requires short { 68 < told_length table.items → length table.items ≤ 6 }
         ensures behind { StageBehind table.items result }
         ensures whole { IfErr result (λ _. length table.items ≡ told_length table.items + 2) }
         ensures ready { IfOk result (λ stage.
-            length table.items ≡ told_length table.items + 2 → stage_to_come stage [] ≡ nothing_more) }
+            length table.items ≡ told_length table.items + 2
+            → stage_to_come stage [] ≡ nothing_more) }
     {
         let whole = whole_bytes(&table);
         if table.len() == whole {
