@@ -11,5 +11,5 @@ mod tell;
 mod tests;
 
 fn main(rt: HostRuntime) -> io::Result<()> {
-    tell(rt.alloc(), rt.stdin(), &mut rt.stdout())
+    tell(rt.alloc(), rt.stdin(), &rt.stdout())
 }

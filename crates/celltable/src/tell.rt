@@ -2,20 +2,16 @@ use crate::table_text::TableText;
 use input::read_table;
 use std::alloc::Global;
 use std::io;
-use std::io::{Read, Write};
+use std::io::{Print, Read};
 use words::FaultText;
 
 /// Tells what the table of an input sets up, or what is wrong with it.
 // Over any input and output, so that tests read what is told of a table that is refused, too.
-pub fn tell<R: Read + Drop, W: Write>(alloc: Global, input: R, output: &mut W) -> io::Result<()> {
+// `Print` and no `Write`: it gathers a text before it writes, where `write!` on a stream that has no
+// buffer writes each piece of the text by a call of its own.
+pub fn tell<R: Read + Drop, P: Print>(alloc: Global, input: R, output: &P) -> io::Result<()> {
     match read_table(alloc, input)? {
-        Ok(table) => {
-            let text = TableText(table);
-            write!(output, "{text}")
-        }
-        Err(fault) => {
-            let text = FaultText(fault);
-            writeln!(output, "{text}")
-        }
+        Ok(table) => output.print(TableText(table)),
+        Err(fault) => output.println(FaultText(fault)),
     }
 }

@@ -1,5 +1,9 @@
 use crate::rounds_text::RoundsText;
 use crate::tell::tell;
+use std::cell::RefCell;
+use std::fmt::Display;
+use std::io;
+use std::io::{Print, Write};
 use std::test::Fail;
 use table_reference::TableReference;
 use wire::Table;
@@ -20,12 +24,30 @@ const RUNS: [(&[u8], &str); 3] = [
     ),
 ];
 
+/// An output that keeps what is printed.
+#[derive(Drop)]
+struct Printed(RefCell<Vec<u8>>);
+
+impl Print for Printed {
+    fn print<D: Display + Drop>(&self, value: D) -> io::Result<()> {
+        write!(self.0.try_borrow_mut()?, "{value}")
+    }
+
+    fn println<D: Display + Drop>(&self, value: D) -> io::Result<()> {
+        writeln!(self.0.try_borrow_mut()?, "{value}")
+    }
+
+    fn write_all(&self, bytes: &[u8]) -> io::Result<()> {
+        self.0.try_borrow_mut()?.write_all(bytes)
+    }
+}
+
 #[test]
 fn two_rounds_of_tables(rt: HostRuntime) -> Result<(), Fail> {
     for (bytes, words) in RUNS.iter() {
-        let mut output = Vec::new(rt.alloc());
-        tell(rt.alloc(), *bytes, &mut output)?;
-        assert_eq!(rt; String::from_utf8(output)?.as_str(), *words);
+        let output = Printed(RefCell::new(Vec::new(rt.alloc())));
+        tell(rt.alloc(), *bytes, &output)?;
+        assert_eq!(rt; String::from_utf8(output.0.into_inner())?.as_str(), *words);
     }
     Ok(())
 }
@@ -33,10 +55,10 @@ fn two_rounds_of_tables(rt: HostRuntime) -> Result<(), Fail> {
 #[test]
 fn a_refused_table_is_told_in_a_line(rt: HostRuntime) -> Result<(), Fail> {
     let input: [u8; 10] = [0, 8, 1, 1, 0, 1, 1, 1, 0, 0];
-    let mut output = Vec::new(rt.alloc());
-    tell(rt.alloc(), input.as_slice(), &mut output)?;
+    let output = Printed(RefCell::new(Vec::new(rt.alloc())));
+    tell(rt.alloc(), input.as_slice(), &output)?;
     assert_eq!(rt;
-        output.as_slice(),
+        output.0.into_inner().as_slice(),
         b"refused: number 5, byte 7, line: the delay weight of flow 0 is not 1 to 16 (tags) or not 0 (round robin)\n".as_slice()
     );
     Ok(())
