@@ -1,4 +1,4 @@
-ghost use Rattle.std.specs.Prelude.{◌≡◌};
+ghost use Rattle.std.specs.Prelude.{◌≡◌, max};
 ghost use Rattle.tag_rule.specs.Tags.{held_after, switching, tags};
 ghost use Rattle.tags.specs.View.{tags_held};
 ghost use Rattle.tag_rule.proofs.Laws.{tags_lawful};
@@ -8,6 +8,13 @@ use crate::Tags;
 use reference::Reference;
 use tag_rule::stamp::Stamp;
 
+/// A start tag, lifted to virtual time if it is below it.
+fn lifted(tag: u32, time: u32) -> u32
+    ensures { result ≡ max tag time }
+{
+    tag.max(time)
+}
+
 impl Tags {
     /// Makes a flow due, or not due. The start tag of one that enters is lifted to virtual time, if it is below it.
     fn switch(&mut self, flow: u8, due: bool)
@@ -16,7 +23,7 @@ impl Tags {
         if flow < self.count {
             let stamp = self.stamps[usize::from(flow)];
             let tag = if due {
-                stamp.tag.max(self.time)
+                lifted(stamp.tag, self.time)
             } else {
                 stamp.tag
             };

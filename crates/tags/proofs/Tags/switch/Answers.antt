@@ -13,7 +13,7 @@ put-requires-clause-kept c =
     let tag
     : c.if-due.tag ≡ cond c.args.due (max (stamp_at c.args.self.now.stamps c.from.result).tag c.args.self.now.time) (stamp_at c.args.self.now.stamps c.from.result).tag
     = elim c.if-due.branch [
-      | then-due w ↦ rw w.if-due.true (w.tag-is ∙ w.max-tag.ensures)
+      | then-due w ↦ rw w.if-due.true (w.tag-is ∙ w.lifted-tag.ensures)
       | else-due w ↦ rw w.if-due.false w.tag-is
     ] in
     switched_kept t c.args.flow _ c.from.ensures c.if-flow-self.true c.args.due _ tag
@@ -24,7 +24,7 @@ returns-after-due c =
     let tag
     : c.if-due.tag ≡ cond c.args.due (max (stamp_at c.args.self.now.stamps c.from.result).tag c.args.self.now.time) (stamp_at c.args.self.now.stamps c.from.result).tag
     = elim c.if-due.branch [
-      | then-due w ↦ rw w.if-due.true (w.tag-is ∙ w.max-tag.ensures)
+      | then-due w ↦ rw w.if-due.true (w.tag-is ∙ w.lifted-tag.ensures)
       | else-due w ↦ rw w.if-due.false w.tag-is
     ] in
     c.put.ensures ∙ switched_holds t c.args.flow _ c.from.ensures c.if-flow-self.true c.args.due _ tag
